@@ -8,9 +8,9 @@ use Rattle.agc_timeline.specs.Film.{film_text as tables_film_text}
 use Rattle.agc_timeline.specs.Page.{film_text, film_pair_text}
 use Rattle.agc_timeline.specs.Recording.{IsRecordingOf}
 use Rattle.agc_timeline.specs.Watched.{HasLines, span_of}
-use Rattle.agc_timeline.specs.declared.part.Part.{Part}
+use Rattle.agc_trace.specs.declared.span.Span.{Span}
 use Rattle.agc_timeline.specs.declared.recording.Recording.{Recording}
-use Rattle.agc_timeline.specs.declared.title.RunFiles.{RunFiles}
+use Rattle.agc_load.specs.declared.run_files.RunFiles.{RunFiles}
 use Rattle.agc_load.specs.declared.fault.LoadFault.{LoadFault}
 use Rattle.agc_analysis.specs.Pairs.{IsPairRefused}
 use Rattle.agc_study_args.specs.Started.{IsRefused, IsStartedOf}
@@ -19,7 +19,7 @@ use Rattle.agc_analysis.specs.declared.fault.AnalysisFault.{AnalysisFault}
 use Rattle.agc_study_args.specs.declared.args.FilmArgs.{FilmArgs}
 
 -- the tables over a part of a run: none if --watch is not given, else those at the addresses that its text names
-abbrev pub ShowsTables : Option (String Global) → Part → State → Option (String Global) → Type 0
+abbrev pub ShowsTables : Option (String Global) → Span → State → Option (String Global) → Type 0
 ShowsTables None part machine tables = tables ≡ None
 ShowsTables (Some watch) part machine tables =
     (spec : WatchSpec) × IsWatchable (string_bytes watch) spec

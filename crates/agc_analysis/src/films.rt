@@ -10,11 +10,10 @@ ghost use Rattle.agc_load.specs.declared.fault.LoadFault.TheVariants as refusal;
 
 use crate::fault::AnalysisFault;
 use agc_io::Progress;
-use agc_load::LoadFault;
+use agc_load::{LoadFault, RunFiles};
 use agc_study_args::{FilmArgs, RunInputs, Start, read_start};
-use agc_timeline::{
-    HEAD, Part, Recording, RunFiles, TABLES, TAIL, film, film_watched, push_film, push_film_pair,
-};
+use agc_timeline::{HEAD, Recording, TABLES, TAIL, film, film_watched, push_film, push_film_pair};
+use agc_trace::Span;
 use std::alloc::Global;
 use std::io::Read;
 
@@ -97,7 +96,7 @@ fn record_run<R: Read, P: Progress>(
 /// Records a part of a machine's run, with the tables if they are watched.
 fn film_start<P: Progress>(
     alloc: Global,
-    part: Part,
+    part: Span,
     start: &mut Start,
     progress: &mut P,
 ) -> Result<Recording, LoadFault>

@@ -14,8 +14,8 @@ use Rattle.agc_panel.specs.Text.{shows_same}
 use Rattle.agc_panel.specs.declared.face.Face.{Face}
 use Rattle.agc_diff.specs.ObservedCursor.{HasShown, shown_left}
 use Rattle.agc_diff.specs.Observation.{FitsShown, seen_at, shown_after, shown_at, word_of}
-use Rattle.agc_diff.specs.declared.observed.diff_by.DiffBy.{DiffBy}
-use Rattle.agc_diff.specs.declared.observed.diff_by.DiffBy.TheVariants as kind
+use Rattle.agc_trace.specs.declared.diff_by.DiffBy.{DiffBy}
+use Rattle.agc_trace.specs.declared.diff_by.DiffBy.TheVariants as kind
 use Rattle.agc_diff.specs.declared.observed.observation.Observation.{Observation}
 
 -- what a run shows from a state is what its next write shows, and the rest

@@ -9,7 +9,7 @@ use Rattle.agc_machine.specs.State.{State}
 use Rattle.agc_diff.specs.ObservedPrefix.{FitsPair, GoTogether, ShownPart, skew_of, kept, lefts, pairs_of, rights, seen}
 use Rattle.agc_diff.specs.ObservedCompared.{SummarizesPairs, is_nowhere, common_pairs}
 use Rattle.agc_diff.specs.Observation.{Look, looks_of, shown_by}
-use Rattle.agc_diff.specs.declared.observed.diff_by.DiffBy.{DiffBy}
+use Rattle.agc_trace.specs.declared.diff_by.DiffBy.{DiffBy}
 use Rattle.agc_diff.specs.declared.observed.common_prefix.CommonPrefix.{CommonPrefix}
 use Rattle.agc_diff.specs.declared.observed.comparison.Pair.{Pair}
 use Rattle.agc_diff.specs.declared.observed.comparison.ObservedComparison.{ObservedComparison}

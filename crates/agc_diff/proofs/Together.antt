@@ -13,7 +13,7 @@ use Rattle.agc_panel.specs.declared.face.Face.{Face}
 use Rattle.agc_diff.specs.ObservedPrefix.{FitsPair, GoTogether, apart, skew_of, kept, lefts, rights, seen}
 use Rattle.agc_diff.specs.ObservedCursor.{HasShown, shown_left}
 use Rattle.agc_diff.specs.Observation.{FitsShown, Look, look_of, looks_of, shown_by}
-use Rattle.agc_diff.specs.declared.observed.diff_by.DiffBy.{DiffBy}
+use Rattle.agc_trace.specs.declared.diff_by.DiffBy.{DiffBy}
 use Rattle.agc_diff.specs.declared.observed.common_prefix.CommonPrefix.{CommonPrefix}
 use Rattle.agc_diff.specs.declared.observed.comparison.Pair.{Pair}
 use Rattle.agc_diff.specs.declared.observed.observation.Observation.{Observation}

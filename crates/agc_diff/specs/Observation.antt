@@ -8,8 +8,8 @@ use Rattle.agc_machine.specs.State.{State}
 use Rattle.agc_panel.specs.Face.{face_after, panel_of}
 use Rattle.agc_panel.specs.Text.{panel_text, shows_same}
 use Rattle.agc_panel.specs.declared.face.Face.{Face}
-use Rattle.agc_diff.specs.declared.observed.diff_by.DiffBy.{DiffBy}
-use Rattle.agc_diff.specs.declared.observed.diff_by.DiffBy.TheVariants as kind
+use Rattle.agc_trace.specs.declared.diff_by.DiffBy.{DiffBy}
+use Rattle.agc_trace.specs.declared.diff_by.DiffBy.TheVariants as kind
 use Rattle.agc_diff.specs.declared.observed.observation.Observation.{Observation}
 use Rattle.agc_diff.specs.declared.observed.observation.Observed.{Observed}
 use Rattle.agc_diff.specs.declared.observed.observation.Observed.TheVariants as seen

@@ -5,7 +5,7 @@ use Rattle.agc_machine.specs.Run.{run_of}
 use Rattle.agc_machine.specs.State.{State}
 use Rattle.agc_panel.specs.declared.face.Face.{Face}
 use Rattle.agc_diff.specs.Observation.{shown_after}
-use Rattle.agc_diff.specs.declared.observed.diff_by.DiffBy.{DiffBy}
+use Rattle.agc_trace.specs.declared.diff_by.DiffBy.{DiffBy}
 use Rattle.agc_diff.specs.declared.observed.observation.Observation.{Observation}
 
 -- what an observer still sees of a run from a state, at which its panel is this one

@@ -5,8 +5,8 @@ use Rattle.std.specs.Str.Lines.{lines}
 use Rattle.agc_panel.specs.Text.{panel_text}
 use Rattle.agc_word.specs.Octal.{octal_digits, word_digits}
 use Rattle.agc_diff.specs.Counted.{counted}
-use Rattle.agc_diff.specs.declared.observed.diff_by.DiffBy.{DiffBy}
-use Rattle.agc_diff.specs.declared.observed.diff_by.DiffBy.TheVariants as kind
+use Rattle.agc_trace.specs.declared.diff_by.DiffBy.{DiffBy}
+use Rattle.agc_trace.specs.declared.diff_by.DiffBy.TheVariants as kind
 use Rattle.agc_diff.specs.declared.observed.comparison.Pair.{Pair}
 use Rattle.agc_diff.specs.declared.observed.comparison.ObservedComparison.{ObservedComparison}
 use Rattle.agc_diff.specs.declared.observed.comparison.ObservedDivergence.{ObservedDivergence}

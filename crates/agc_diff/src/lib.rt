@@ -16,8 +16,8 @@ pub use cells::CellPair;
 pub use comparison::{Comparison, DivergencePoint};
 pub use cursor::{End, WriteDivergence};
 pub use observed::{
-    DiffBy, Observation, Observed, ObservedComparison, ObservedDivergence, Pair, compare_shown,
-    next_write, none_kept, one_more, push_brief, push_last, push_shown,
+    Observation, Observed, ObservedComparison, ObservedDivergence, Pair, compare_shown, next_write,
+    none_kept, one_more, push_brief, push_last, push_shown,
 };
 pub use report::{SideNames, push_comparison};
 pub use runs::compare;

@@ -27,8 +27,8 @@ use Rattle.agc_profile.specs.declared.form.ProfileForm.{ProfileForm}
 use Rattle.agc_profile.specs.declared.profile.Profile.{Profile}
 use Rattle.agc_profile.specs.declared.routine.MemoryKind.{MemoryKind}
 use Rattle.agc_profile.specs.declared.routine.MemoryKind.TheVariants as memory
-use Rattle.agc_profile.specs.declared.row.Layout.{Layout}
-use Rattle.agc_profile.specs.declared.row.Layout.TheVariants as layout
+use Rattle.agc_trace.specs.declared.layout.Layout.{Layout}
+use Rattle.agc_trace.specs.declared.layout.Layout.TheVariants as layout
 use Rattle.agc_profile.specs.declared.tally.Tally.{Tally}
 
 -- the line of a tally, unless it is zero

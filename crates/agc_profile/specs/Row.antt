@@ -2,8 +2,8 @@
 use Rattle.std.specs.Prelude.{ℕ, ◌*◌, ◌-◌, ◌/◌, ◌%◌, ◌==◌, List, [], ◌∷◌, ◌++◌, codes, length, replicate, flat_map}
 use Rattle.std.specs.Prelude.{Option, Some, None, if◌then◌else◌}
 use Rattle.std.specs.Fmt.{decimal}
-use Rattle.agc_profile.specs.declared.row.Layout.{Layout}
-use Rattle.agc_profile.specs.declared.row.Layout.TheVariants as layout
+use Rattle.agc_trace.specs.declared.layout.Layout.{Layout}
+use Rattle.agc_trace.specs.declared.layout.Layout.TheVariants as layout
 use Rattle.agc_profile.specs.declared.tally.Tally.{Tally}
 
 -- a number aligned right in a column of this width

@@ -11,8 +11,8 @@ ghost use Rattle.agc_profile.specs.Report.{
 
 use crate::profile::Profile;
 use crate::report::push_counted;
-use crate::row::Layout;
 use agc_store::place::{ERASABLE_BANK_SIZE, FIXED_BANK_SIZE};
+use agc_trace::Layout;
 use std::alloc::AllocError;
 
 /// Appends the lines of the first `count` banks of erasable memory.

@@ -1,6 +1,6 @@
 //! How a profile is printed.
-use crate::row::Layout;
 use agc_symbols::SymbolTable;
+use agc_trace::Layout;
 
 /// How a profile is printed.
 #[derive(Drop)]

@@ -28,7 +28,6 @@ pub use opcode::Opcode;
 pub use profile::Profile;
 pub use report::push_profile;
 pub use routine::MemoryKind;
-pub use row::Layout;
 pub use step::Step;
 pub use table::Table;
 pub use tally::Tally;

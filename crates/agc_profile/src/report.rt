@@ -20,12 +20,13 @@ use crate::number::{basic_number, extracode_number};
 use crate::profile::Profile;
 use crate::routine::MemoryKind;
 use crate::routine_lines::push_routines;
-use crate::row::{Layout, push_row};
+use crate::row::{heading, push_row};
 use crate::tally::Tally;
 use crate::words::push_words;
 use agc_order::{Basic, Extracode};
 use agc_processor::Rupt;
 use agc_store::Store;
+use agc_trace::Layout;
 use std::alloc::AllocError;
 
 /// Prints a profile: lines for the run as a whole, for its interrupts, its orders by mnemonic, its banks, its routines if
@@ -67,7 +68,7 @@ fn push_summary(text: &mut String, layout: Layout, counts: &Profile) -> Result<(
     ensures { OnOk result (string_bytes text.new
         ≡ string_bytes text.old ++ summary_text layout counts.now) }
 {
-    text.push_str(layout.heading())?;
+    text.push_str(heading(layout))?;
     push_all(text, layout, counts)?;
     push_rupts(text, layout, counts, 10)?;
     push_basics(text, layout, counts)?;

@@ -7,13 +7,14 @@ ghost use Rattle.agc_profile.specs.Routine.{AreSums, routine_tally, size_of, tab
 use crate::banks::{push_erasable_name, push_fixed_name};
 use crate::profile::Profile;
 use crate::routine::{MemoryKind, is_named, sum_routines};
-use crate::row::{Layout, push_row, share_text};
+use crate::row::{push_row, share_text};
 use crate::table::Table;
 use crate::tally::Tally;
 use crate::words::{fixed_place, push_label};
 use agc_listing::{Cell, Place};
 use agc_store::place::{ERASABLE_BANK_SIZE, FIXED_BANK_SIZE};
 use agc_symbols::SymbolTable;
+use agc_trace::Layout;
 use std::alloc::AllocError;
 
 /// Appends the lines of the routines of a memory. Fails if out of memory, or a number overflows.

@@ -1,33 +1,20 @@
 //! Prints a line of a profile.
 ghost use Rattle.std.specs.Prelude.{◌≡◌, ◌++◌, ◌-◌, ◌<◌, IfOk, IfSome, MatchOption, OnOk, length, replicate, string_bytes};
 ghost use Rattle.std.specs.Fmt.{decimal};
-ghost use Rattle.agc_profile.specs.Row.{after_name, column, data_column, data_value, doubled, name_field, padded, quoted, row_text, tally_fields, values_text};
+ghost use Rattle.agc_profile.specs.Row.{after_name, column, data_column, data_value, doubled, heading, name_field, padded, quoted, row_text, tally_fields, values_text};
 ghost use Rattle.agc_profile.specs.Row.{share_text, tenths_of};
 
 use crate::tally::Tally;
+use agc_trace::Layout;
 use std::alloc::{AllocError, Global};
 
-/// The layout of a profile.
-#[derive(Clone, Copy, Debug, PartialEq, Eq)]
-pub enum Layout {
-    /// Columns, for reading.
-    Columns,
-    /// Comma-separated values, for programs.
-    Csv,
-}
-
-impl Layout {
-    ghost use Rattle.std.specs.Prelude.{◌≡◌};
-    ghost use Rattle.agc_profile.specs.Row.{heading};
-
-    /// Returns the heading line.
-    pub(crate) fn heading(self) -> &'static str
-        ensures { result.now ≡ heading self }
-    {
-        match self {
-            Layout::Columns => "         times          cycles          data  of what\n",
-            Layout::Csv => "kind,name,order,times,cycles,data\n",
-        }
+/// Returns the heading line.
+pub(crate) fn heading(layout: Layout) -> &'static str
+    ensures { result.now ≡ heading layout }
+{
+    match layout {
+        Layout::Columns => "         times          cycles          data  of what\n",
+        Layout::Csv => "kind,name,order,times,cycles,data\n",
     }
 }
 

@@ -23,7 +23,7 @@ ghost use Rattle.agc_profile.specs.Report.{
 
 use crate::form::ProfileForm;
 use crate::profile::Profile;
-use crate::row::{Layout, push_after_name, push_padded, push_row};
+use crate::row::{push_after_name, push_padded, push_row};
 use crate::tally::Tally;
 use agc_listing::{
     Cell, Location, Place, leads_on, listed_address, next_is_extracode, push_order, push_place,
@@ -31,6 +31,7 @@ use agc_listing::{
 use agc_store::Store;
 use agc_store::place::{ERASABLE_CELLS, FIXED_BANK_SIZE, FIXED_PLACES, FIXED_WINDOW, FIXED_WORDS};
 use agc_symbols::{SymbolTable, push_nearby};
+use agc_trace::Layout;
 use agc_word::Narrow;
 use std::alloc::{AllocError, Global};
 

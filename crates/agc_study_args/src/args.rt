@@ -1,10 +1,8 @@
 //! The parsed arguments of `agc-study`, one struct for each subcommand.
 use agc_check::Reading;
-use agc_diff::DiffBy;
-use agc_profile::Layout;
+use agc_load::RunFiles;
 use agc_store::RopeForm;
-use agc_timeline::{Part, RunFiles};
-use agc_trace::{Notation, Selection, Span};
+use agc_trace::{DiffBy, Layout, Notation, Selection, Span};
 
 /// The program name used in messages.
 pub const NAME: &str = "agc-study";
@@ -166,7 +164,7 @@ pub struct FilmArgs {
     pub other: Option<RunFiles>,
     pub options: RunOptions,
     /// The part of the run to film.
-    pub part: Part,
+    pub part: Span,
     /// The value of `--watch`.
     pub watch: Option<String>,
     /// The symbol file (`--names`).

@@ -11,12 +11,11 @@ use crate::args::RunOptions;
 use crate::read_file::{ReadFile, open_file};
 use crate::rope_read::{RopeRead, read_any_rope};
 use agc_io::{ROPE_BYTES, TEXT_BYTES};
-use agc_load::{LoadFault, Loaded, load, read_script};
+use agc_load::{LoadFault, Loaded, RunFiles, load, read_script};
 use agc_machine::Machine;
 use agc_panel::{CheckedSpec, WatchSpec};
 use agc_script::Script;
 use agc_store::{Rope, RopeForm};
-use agc_timeline::RunFiles;
 use std::alloc::Global;
 use std::io::{Read, Write};
 use std::rt::Files;
@@ -92,7 +91,7 @@ pub fn read_machine_as<R: Read>(
     Ok(start.machine)
 }
 
-/// Does the same, with the tables of `--watch` if it is given. Fails with the first fault, checked in this order:
+/// Does the same, with the tables of `--watch` if there is one. Fails with the first fault, checked in this order:
 /// rope, script, limit, `--watch`, `--until`, addresses of the tables.
 pub fn read_start<R: Read>(
     alloc: Global,

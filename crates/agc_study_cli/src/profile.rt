@@ -2,8 +2,8 @@
 use crate::runs::{files_of, options_of};
 use crate::values::span_of;
 use agc_cli::{ArgsFault, text_of};
-use agc_profile::Layout;
 use agc_study_args::{Args, ProfileArgs};
+use agc_trace::Layout;
 use clap::ArgMatches;
 use std::alloc::Global;
 

@@ -1,8 +1,8 @@
 //! Parses the arguments that the subcommands share: the files of a run, and where it ends.
 use agc_cli::{form_of, number_of, path_of, text_of};
+use agc_load::RunFiles;
 use agc_store::RopeForm;
 use agc_study_args::RunOptions;
-use agc_timeline::RunFiles;
 use clap::ArgMatches;
 use std::alloc::{AllocError, Global};
 

@@ -1,8 +1,8 @@
 //! Parses the options `--by` and `--brief` of `compare`, and explains two mistakes in its options.
 use crate::values::{NO_CHANNEL, mistake, refused};
 use agc_cli::ArgsFault;
-use agc_diff::DiffBy;
 use agc_study_args::ObservedArgs;
+use agc_trace::DiffBy;
 use agc_word::read_octal;
 use clap::ArgMatches;
 use std::alloc::Global;

@@ -7,10 +7,10 @@ use crate::runs::{files_of, options_of, other_files_of, other_form_of};
 use crate::shown::{shown_of, with_right_form};
 use crate::values::{channel_names_of, channels_of, mistake, orders_of, span_of, texts_of};
 use agc_cli::{ArgsFault, form_of, mistake_of, path_of, text_of};
+use agc_load::RunFiles;
 use agc_study_args::{
     Args, CheckArgs, CompareArgs, FilmArgs, ListArgs, ListStyle, NAME, TraceArgs, WeaveArgs,
 };
-use agc_timeline::{Part, RunFiles};
 use agc_trace::{Notation, Only, Selection, Span};
 use clap::{ArgMatches, Command};
 use std::alloc::{AllocError, Global};
@@ -208,7 +208,7 @@ fn film_args(alloc: Global, given: &ArgMatches<'_>) -> Result<Args, ArgsFault> {
         files: files_of(alloc, given)?,
         other: other_run_of(alloc, given)?,
         options: options_of(alloc, given)?,
-        part: part_of(alloc, given)?,
+        part: span_of(alloc, given)?,
         watch: text_of(alloc, given, "watch")?,
         names: text_of(alloc, given, "names")?,
     }))
@@ -224,12 +224,6 @@ fn other_run_of(alloc: Global, given: &ArgMatches<'_>) -> Result<Option<RunFiles
             "error: the second ROPE needs a SCRIPT after it\n",
         )),
     }
-}
-
-/// Parses the part of a run to film.
-fn part_of(alloc: Global, given: &ArgMatches<'_>) -> Result<Part, ArgsFault> {
-    let Span { from, to } = span_of(alloc, given)?;
-    Ok(Part { from, to })
 }
 
 fn only_of(given: &ArgMatches<'_>) -> Option<Only> {

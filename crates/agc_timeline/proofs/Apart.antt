@@ -12,7 +12,7 @@ use Rattle.agc_timeline.specs.Frames.{shown_after, shown_at}
 use Rattle.agc_timeline.specs.Laws.{AreCuts, frames_of_run}
 use Rattle.agc_timeline.specs.Divergence.{PartAt, first_difference}
 use Rattle.agc_timeline.specs.declared.frame.Frame.{Frame}
-use Rattle.agc_timeline.specs.declared.part.Part.{Part}
+use Rattle.agc_trace.specs.declared.span.Span.{Span}
 use Rattle.agc_timeline.proofs.Alone.{earlier_alone, left_alone, right_alone}
 use Rattle.agc_timeline.proofs.Cuts.{cuts_later, film_is_cut}
 use Rattle.agc_timeline.proofs.Differ.{DifferFirst, at_the_same_cycle}
@@ -56,11 +56,11 @@ unfolding shown_at
 part_where_differ ls rs None d = d
 part_where_differ ls rs (Some cycle) d = (d.1, d.2)
 
-cut_from_start : (s : State) (part : Part) → AreCuts 0 (panel_text (panel_of [])) (frames_of_run part s)
+cut_from_start : (s : State) (part : Span) → AreCuts 0 (panel_text (panel_of [])) (frames_of_run part s)
 unfolding shown_after
 cut_from_start s part = cuts_later 0 part.from (panel_text (panel_of [])) (frames_of_run part s) (omega arith) (film_is_cut s part)
 
-pub films_part : (s t : State) (part : Part) →
+pub films_part : (s t : State) (part : Span) →
     PartAt (frames_of_run part s) (frames_of_run part t) (first_difference (frames_of_run part s) (frames_of_run part t))
 films_part s t part =
     part_where_differ (frames_of_run part s) (frames_of_run part t) (first_difference (frames_of_run part s) (frames_of_run part t))

@@ -15,7 +15,7 @@ use Rattle.agc_panel.specs.declared.face.Face.{Face}
 use Rattle.agc_timeline.specs.Frames.{between, frame_of, frames_after, frames_of, last_of, opening_of, shown_after, up_to}
 use Rattle.agc_timeline.specs.Laws.{AreCuts, frames_of_run}
 use Rattle.agc_timeline.specs.declared.frame.Frame.{Frame}
-use Rattle.agc_timeline.specs.declared.part.Part.{Part}
+use Rattle.agc_trace.specs.declared.span.Span.{Span}
 use Rattle.agc_timeline.proofs.Spans.{between_rises}
 
 -- the frame of a write, if the two panels do not show the same
@@ -49,7 +49,7 @@ part_is_cut from before writes r =
     cut from (panel_text (panel_of [])) from (panel_of before) (frames_after before writes)
     (bytes_eq (panel_text (panel_of [])) (panel_text (panel_of before))) refl (omega arith) (cuts_after (from + 1) before writes r)
 
-pub film_is_cut : (s : State) (part : Part) → AreCuts part.from (shown_after []) (frames_of_run part s)
+pub film_is_cut : (s : State) (part : Span) → AreCuts part.from (shown_after []) (frames_of_run part s)
 unfolding frames_of
 film_is_cut s part =
     part_is_cut part.from (up_to part.from (run_of s).writes) (between part.from (last_of part) (run_of s).writes)

@@ -11,12 +11,12 @@ use Rattle.agc_panel.specs.Face.{panel_of}
 use Rattle.agc_panel.specs.declared.face.Face.{Face}
 use Rattle.agc_timeline.specs.Frames.{between, frames_after, frames_of, last_of, opening_of, up_to}
 use Rattle.agc_timeline.specs.Run.{HasOpened, HasRecorded, HasTaken}
-use Rattle.agc_timeline.specs.declared.part.Part.{Part}
+use Rattle.agc_trace.specs.declared.span.Span.{Span}
 use Rattle.agc_timeline.specs.declared.recorder.Recorder.{Recorder}
 use Rattle.agc_timeline.proofs.Spans.{first_part, second_part}
 
 -- the frames that a recorder has of a run that was opened at the part's beginning and recorded to its end
-pub frames_of_part : (part : Part) (s t u : State) (panel : Face) (old new : Recorder) → (o : HasOpened part.from s t panel) →
+pub frames_of_part : (part : Span) (s t u : State) (panel : Face) (old new : Recorder) → (o : HasOpened part.from s t panel) →
     ((before : List ChannelWrite) → panel ≡ panel_of before → HasTaken part.from before [] old) → HasRecorded (last_of part) t u old new →
     new.frames.items ≡ frames_of part (run_of s).writes
 unfolding frames_of

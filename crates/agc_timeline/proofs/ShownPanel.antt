@@ -15,7 +15,7 @@ use Rattle.agc_panel.specs.declared.face.Face.{Face}
 use Rattle.agc_timeline.specs.Frames.{between, frame_of, frames_after, frames_of, last_of, opening_of, shown_after, shown_at, up_to}
 use Rattle.agc_timeline.specs.Laws.{frames_of_run, writes_up_to}
 use Rattle.agc_timeline.specs.declared.frame.Frame.{Frame}
-use Rattle.agc_timeline.specs.declared.part.Part.{Part}
+use Rattle.agc_trace.specs.declared.span.Span.{Span}
 use Rattle.agc_timeline.proofs.Cuts.{cuts_after, one_or_none}
 use Rattle.agc_timeline.proofs.Spanned.{up_to_between}
 use Rattle.agc_timeline.proofs.Spans.{between_rises, none_up_to}
@@ -58,7 +58,7 @@ shown_in_part from before writes cycle l r =
     (bytes_eq (panel_text (panel_of [])) (panel_text (panel_of before))) refl l
     ∙ shown_after_more (from + 1) before writes cycle r
 
-pub film_is_the_panel : (s : State) (part : Part) (cycle : ℕ) → part.from ≤ cycle → cycle ≤ part.to →
+pub film_is_the_panel : (s : State) (part : Span) (cycle : ℕ) → part.from ≤ cycle → cycle ≤ part.to →
     shown_at (frames_of_run part s) cycle ≡ shown_after (writes_up_to cycle s)
 unfolding frames_of
 film_is_the_panel s part cycle l h =

@@ -12,7 +12,7 @@ use Rattle.agc_timeline.specs.Frames.{shown_after}
 use Rattle.agc_timeline.specs.Laws.{frames_of_run, writes_up_to}
 use Rattle.agc_timeline.specs.Packed.{blank_lines, is_keyframe, lines_written, name_of, packed, packed_from, reported, text_at, unpacked, unpacked_after, with_line}
 use Rattle.agc_timeline.specs.declared.frame.Frame.{Frame}
-use Rattle.agc_timeline.specs.declared.part.Part.{Part}
+use Rattle.agc_trace.specs.declared.span.Span.{Span}
 use Rattle.agc_timeline.proofs.Laid.{all_written, are_apart, laid}
 use Rattle.agc_timeline.proofs.ShownPanel.{film_is_the_panel}
 use Rattle.agc_timeline.proofs.Reported.{reported_is_shown}
@@ -93,7 +93,7 @@ unpacking_gives frames k =
     ∙ unpack_from (0 + 1024 * k) blank_lines (lines_before (1024 * k) blank_lines frames) (drop (1024 * k) frames) (have_names (panel_of []))
     (inl (keyframe_at k))
 
-pub page_is_the_panel : (s : State) (part : Part) (cycle : ℕ) → part.from ≤ cycle → cycle ≤ part.to →
+pub page_is_the_panel : (s : State) (part : Span) (cycle : ℕ) → part.from ≤ cycle → cycle ≤ part.to →
     text_at (unpacked (packed (frames_of_run part s))) cycle ≡ shown_after (writes_up_to cycle s)
 page_is_the_panel s part cycle l h =
     ap (λ (texts : List (ℕ × List ℕ)). text_at texts cycle) (unpacking_gives (frames_of_run part s) 0)

@@ -8,7 +8,7 @@ use Rattle.agc_word.specs.declared.channel_write.ChannelWrite.{ChannelWrite}
 use Rattle.agc_panel.specs.Face.{panel_of}
 use Rattle.agc_panel.specs.Text.{panel_text}
 use Rattle.agc_timeline.specs.declared.frame.Frame.{Frame}
-use Rattle.agc_timeline.specs.declared.part.Part.{Part}
+use Rattle.agc_trace.specs.declared.span.Span.{Span}
 
 -- what the panel shows after these writes
 unfoldable pub shown_after : List ChannelWrite → List ℕ
@@ -45,12 +45,12 @@ between from to writes =
     filter (λ write. nat_lt from write.cycle && nat_le write.cycle to) writes
 
 -- the last cycle of a part; one that would end before it begins is only its first cycle
-abbrev pub last_of : Part → ℕ
+abbrev pub last_of : Span → ℕ
 last_of part = max part.from part.to
 
 -- The frames of a part of these writes: the panel at its first cycle, and each change after that, up to its
 -- last cycle. Before the first frame the panel is blank.
-unfoldable pub frames_of : Part → List ChannelWrite → List Frame
+unfoldable pub frames_of : Span → List ChannelWrite → List Frame
 frames_of part writes =
     let before = up_to part.from writes in
     opening_of part.from before ++ frames_after before (between part.from (last_of part) writes)

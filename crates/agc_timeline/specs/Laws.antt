@@ -6,10 +6,10 @@ use Rattle.agc_machine.specs.State.{State}
 use Rattle.agc_panel.specs.Text.{panel_text}
 use Rattle.agc_timeline.specs.Frames.{frames_of, up_to}
 use Rattle.agc_timeline.specs.declared.frame.Frame.{Frame}
-use Rattle.agc_timeline.specs.declared.part.Part.{Part}
+use Rattle.agc_trace.specs.declared.span.Span.{Span}
 
 -- the frames of a part of the run from a state
-abbrev pub frames_of_run : Part → State → List Frame
+abbrev pub frames_of_run : Span → State → List Frame
 frames_of_run part s = frames_of part (run_of s).writes
 
 -- the writes of the run from a state up to a cycle

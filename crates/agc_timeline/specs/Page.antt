@@ -12,7 +12,7 @@ use Rattle.agc_timeline.specs.KeyEvents.{press_name}
 use Rattle.agc_timeline.specs.Title.{title_text}
 use Rattle.agc_script.specs.declared.event.Event.{Event}
 use Rattle.agc_timeline.specs.declared.recording.Recording.{Recording}
-use Rattle.agc_timeline.specs.declared.title.RunFiles.{RunFiles}
+use Rattle.agc_load.specs.declared.run_files.RunFiles.{RunFiles}
 
 -- a frame: its cycle, and the lines of its panel that are written
 unfoldable pub frame_text : Packed → List ℕ

@@ -3,7 +3,7 @@ use Rattle.std.specs.Prelude.{ℕ, nat_le, nat_lt, ◌==◌, ◌&&◌, not, Bool
 use Rattle.std.specs.Fmt.{decimal}
 use Rattle.std.specs.List.{flat_map}
 use Rattle.agc_word.specs.Octal.{octal_digits}
-use Rattle.agc_timeline.specs.declared.title.RunFiles.{RunFiles}
+use Rattle.agc_load.specs.declared.run_files.RunFiles.{RunFiles}
 
 -- a byte that prints in ASCII, and is neither `<` nor the backslash
 abbrev pub is_plain : ℕ → Bool

@@ -4,10 +4,9 @@ use Rattle.std.specs.declared.alloc.Global.{Global}
 use Rattle.std.specs.declared.string.String.{String}
 use Rattle.agc_trace.specs.declared.span.Span.{Span}
 use Rattle.agc_timeline.specs.Frames.{last_of}
-use Rattle.agc_timeline.specs.declared.part.Part.{Part}
 
 -- the cycles of a part
-abbrev pub span_of : Part → Span
+abbrev pub span_of : Span → Span
 span_of part = record { from = part.from; to = last_of part }
 
 -- a recording has tables, with these lines

@@ -7,12 +7,12 @@ ghost use Rattle.agc_timeline.specs.Laws.{AreCuts, frames_of_run, writes_up_to};
 ghost use Rattle.agc_timeline.specs.Packed.{packed, reported, text_at, unpacked};
 ghost use Rattle.agc_timeline.specs.Divergence.{PartAt, first_difference};
 ghost use Rattle.agc_timeline.specs.declared.frame.Frame.{Frame};
-ghost use Rattle.agc_timeline.specs.declared.part.Part.{Part};
+ghost use Rattle.agc_trace.specs.declared.span.Span.{Span};
 
 /// At each cycle of a part, its film shows what the panel shows after the writes of the whole run up to that cycle.
 #[tactic(auto, using(crate::proofs::ShownPanel::film_is_the_panel))]
 pub fn a_film_shows_the_panel()
-    ensures { (s : State) (part : Part) (cycle : ℕ) → part.from ≤ cycle → cycle ≤ part.to
+    ensures { (s : State) (part : Span) (cycle : ℕ) → part.from ≤ cycle → cycle ≤ part.to
         → shown_at (frames_of_run part s) cycle ≡ shown_after (writes_up_to cycle s) }
 {}
 
@@ -20,14 +20,14 @@ pub fn a_film_shows_the_panel()
 /// else than the blank panel.
 #[tactic(auto, using(crate::proofs::Cuts::film_is_cut))]
 pub fn each_frame_is_a_change()
-    ensures { (s : State) (part : Part)
+    ensures { (s : State) (part : Span)
         → AreCuts part.from (shown_after []) (frames_of_run part s) }
 {}
 
 /// The first difference of two films is the least cycle at which they show different panels.
 #[tactic(auto, using(crate::proofs::Apart::films_part))]
 pub fn films_part_at_the_first_difference()
-    ensures { (s t : State) (part : Part) → PartAt (frames_of_run part s) (frames_of_run part t)
+    ensures { (s t : State) (part : Span) → PartAt (frames_of_run part s) (frames_of_run part t)
         (first_difference (frames_of_run part s) (frames_of_run part t)) }
 {}
 
@@ -43,7 +43,7 @@ pub fn unpacking_gives_the_frames()
 /// whole run up to that cycle.
 #[tactic(auto, using(crate::proofs::Unpacked::page_is_the_panel))]
 pub fn a_page_shows_the_panel()
-    ensures { (s : State) (part : Part) (cycle : ℕ) → part.from ≤ cycle → cycle ≤ part.to
+    ensures { (s : State) (part : Span) (cycle : ℕ) → part.from ≤ cycle → cycle ≤ part.to
         → text_at (unpacked (packed (frames_of_run part s))) cycle
         ≡ shown_after (writes_up_to cycle s) }
 {}

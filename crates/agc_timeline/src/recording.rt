@@ -9,12 +9,12 @@ ghost use Rattle.agc_timeline.specs.Run.{HasOpened, HasRecorded, past};
 
 use crate::frame::Frame;
 use crate::key_event::presses;
-use crate::part::Part;
 use crate::recorder::Recorder;
 use agc_io::{Progress, report_at};
 use agc_machine::{Machine, Stepped, Stop};
 use agc_panel::Panel;
 use agc_script::Event;
+use agc_trace::Span;
 use std::alloc::{AllocError, Global};
 
 /// The contents of a film of a part of a run.
@@ -42,7 +42,7 @@ pub struct Recording {
 pub fn film<P: Progress>(
     alloc: Global,
     machine: &mut Machine,
-    part: Part,
+    part: Span,
     progress: &mut P,
 ) -> Result<Recording, AllocError>
     ensures recording { IfOk result (IsRecordingOf part machine.old) }
@@ -67,7 +67,7 @@ pub fn film<P: Progress>(
 /// Returns the recording of a part, from what a recorder took of it and these tables. Fails if memory runs out.
 pub(crate) fn recording_up_to(
     alloc: Global,
-    part: Part,
+    part: Span,
     events: &[Event],
     machine: &Machine,
     recorder: Recorder,

@@ -3,14 +3,8 @@ ghost use Rattle.std.specs.Prelude.{◌≡◌, ◌++◌, codes, OnOk, string_byt
 ghost use Rattle.agc_word.specs.Octal.{octal_digits};
 ghost use Rattle.agc_timeline.specs.Title.{is_plain, name_byte, name_text, title_text};
 
+use agc_load::RunFiles;
 use std::alloc::AllocError;
-
-/// The names of the files of a run.
-#[derive(Debug, Drop)]
-pub struct RunFiles {
-    pub rope: String,
-    pub script: String,
-}
 
 /// Adds the names of a run's files, and its limit.
 #[tactic(auto, unfolding(crate::specs::Title::title_text))]

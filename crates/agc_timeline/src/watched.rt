@@ -8,7 +8,6 @@ ghost use Rattle.agc_timeline.specs.Film.{after_first, film_text, until};
 ghost use Rattle.agc_timeline.specs.Lines.{reported_of};
 ghost use Rattle.agc_timeline.specs.States.{states_of};
 
-use crate::part::Part;
 use crate::recorder::Recorder;
 use crate::recording::{Recording, recording_up_to};
 use crate::table_film::{InitialTables, TablesFilm};
@@ -23,7 +22,7 @@ use std::alloc::{AllocError, Global};
 pub fn film_watched<P: Progress>(
     alloc: Global,
     machine: &mut Machine,
-    part: Part,
+    part: Span,
     spec: &CheckedSpec,
     progress: &mut P,
 ) -> Result<Recording, AllocError>

@@ -1,10 +1,13 @@
-//! Traces: what each boundary of a run did, as values and as lines.
+//! Traces: what each boundary of a run did, as values and as lines. Also what the other studies of a run take as options,
+//! so that their arguments need none of their crates.
 #![tactic(auto)]
 
 mod change;
+mod diff_by;
 mod entry;
 mod last;
 pub mod laws;
+mod layout;
 mod line;
 mod line_form;
 mod named_line;
@@ -20,7 +23,9 @@ mod touched;
 mod tracing;
 
 pub use change::Change;
+pub use diff_by::DiffBy;
 pub use entry::{Entry, Registers, next_entry, registers_in, write_shown};
+pub use layout::Layout;
 pub use line::{order_place, push_happening, push_line, push_registers};
 pub use line_form::{LineForm, Notation};
 pub use named_line::{push_line_with, push_named_happening};

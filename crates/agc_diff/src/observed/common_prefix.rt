@@ -6,10 +6,10 @@ ghost use Rattle.agc_diff.specs.ObservedPrefix.{GoTogether, kept};
 use crate::observed::comparison::{ObservedDivergence, Pair};
 use crate::observed::count::one_more;
 use crate::observed::cursor::Cursor;
-use crate::observed::diff_by::DiffBy;
 use crate::observed::pairing::{Pairing, pairing_of};
 use agc_io::Progress;
 use agc_machine::Machine;
+use agc_trace::DiffBy;
 use circular_buffer::HeapCircularBuffer;
 use std::alloc::{AllocError, Global};
 

@@ -1,6 +1,6 @@
 //! The result of a comparison by observations: what two runs have in common, and where they diverge.
-use crate::observed::diff_by::DiffBy;
 use crate::observed::observation::Observation;
+use agc_trace::DiffBy;
 
 /// Two observations, one of each run, that are the same except for their cycles.
 #[derive(Clone, Copy, Debug, PartialEq, Eq)]

@@ -1,10 +1,10 @@
 //! Goes through a run observation by observation.
-use crate::observed::diff_by::DiffBy;
 use crate::observed::next::next_write;
 use crate::observed::observation::{Observation, seen_at, take_write};
 use agc_io::{Progress, report_at};
 use agc_machine::{Machine, Next};
 use agc_panel::Panel;
+use agc_trace::DiffBy;
 
 /// A cursor that goes through a run observation by observation.
 #[derive(Clone, Copy, Debug, PartialEq, Eq)]

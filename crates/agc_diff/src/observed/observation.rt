@@ -4,8 +4,8 @@ ghost use Rattle.agc_panel.specs.Face.{face_after};
 ghost use Rattle.agc_panel.specs.Text.{panel_text};
 ghost use Rattle.agc_diff.specs.Observation.{InPrint, OnChannel, look_of, seen_at, shown_at, word_of};
 
-use crate::observed::diff_by::DiffBy;
 use agc_panel::Panel;
+use agc_trace::DiffBy;
 use agc_word::{ChannelWrite, Narrow};
 
 /// What an observer sees, without the cycle.

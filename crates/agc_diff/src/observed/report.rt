@@ -9,6 +9,7 @@ ghost use Rattle.agc_diff.specs.ObservedReport.{
   cycles_counted,
   skew_text,
   first_cycle,
+  item_name,
   items_counted,
   number_text,
   pair_text,
@@ -23,9 +24,9 @@ ghost use Rattle.agc_diff.specs.Observation.{FitsShown, FitsSight};
 
 use crate::counted::push_counted;
 use crate::observed::comparison::{ObservedComparison, ObservedDivergence, Pair};
-use crate::observed::diff_by::DiffBy;
 use crate::observed::observation::{Observation, Observed};
 use agc_panel::Panel;
+use agc_trace::DiffBy;
 use std::alloc::{AllocError, Global};
 
 /// Adds the report of a comparison: one line if the runs show the same. Otherwise it has the place where they
@@ -60,11 +61,22 @@ pub fn push_brief(text: &mut String, comparison: &ObservedComparison) -> Result<
     match comparison.divergence {
         Some(divergence) => {
             let cycle = first_cycle(divergence.left, divergence.right);
-            let item = comparison.what.item();
+            let item = item_name(comparison.what);
             let number = divergence.number;
             writeln!(text, "parts at cycle {cycle}, {item} {number}")
         }
         None => text.push_str("same\n"),
+    }
+}
+
+/// Returns the name of one such observation.
+fn item_name(what: DiffBy) -> &'static str
+    ensures { result.now ≡ item_name what }
+{
+    match what {
+        DiffBy::Writes => "write",
+        DiffBy::Channel(_) => "word",
+        DiffBy::Panels => "panel",
     }
 }
 
@@ -116,7 +128,7 @@ fn push_number(text: &mut String, what: DiffBy, number: u64) -> Result<(), Alloc
     ensures { OnOk result (string_bytes text.new
         ≡ string_bytes text.old ++ number_text what number) }
 {
-    let item = what.item();
+    let item = item_name(what);
     writeln!(text, "The runs part at {item} {number}:")
 }
 

@@ -6,9 +6,9 @@ ghost use Rattle.agc_diff.specs.Observation.{looks_of, shown_by};
 
 use crate::observed::common_prefix::{go_together, none_kept};
 use crate::observed::comparison::ObservedComparison;
-use crate::observed::diff_by::DiffBy;
 use agc_io::Progress;
 use agc_machine::Machine;
+use agc_trace::DiffBy;
 use std::alloc::{AllocError, Global};
 
 /// Runs both machines to the first place where they do not show the same, or to their stops, and returns what they

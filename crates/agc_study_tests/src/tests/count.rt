@@ -1,9 +1,9 @@
 //! Tests the profile of a small program, worked out by hand.
 use super::{SHOWS_PROG, machine_of, same, symbols};
 use agc_io::NoProgress;
-use agc_profile::{Layout, Profile, ProfileForm, Tally, count, push_profile};
+use agc_profile::{Profile, ProfileForm, Tally, count, push_profile};
 use agc_symbols::SymbolTable;
-use agc_trace::Span;
+use agc_trace::{Layout, Span};
 use std::process::Abort;
 
 /// Reads two words by DCA, increments a cell, stores A in another, and waits.

@@ -2,16 +2,18 @@
 use super::progress::was_reported;
 use super::{has_lines, machine_of, owned, same};
 use agc_io::NoProgress;
+use agc_load::RunFiles;
 use agc_machine::Stop;
 use agc_script::{Event, Key, What};
 use agc_test_support::RecordingProgress;
-use agc_timeline::{Part, Recording, RunFiles, film, first_difference, push_film, push_film_pair};
+use agc_timeline::{Recording, film, first_difference, push_film, push_film_pair};
+use agc_trace::Span;
 use std::process::Abort;
 
 /// Records the run of a listing with a script, up to a limit of cycles.
 fn reel_of(rt: &(impl AllocGlobal + Abort), listing: &str, script: &str, limit: u64) -> Recording {
     let mut machine = machine_of(rt, listing, script, limit);
-    film(rt.alloc(), &mut machine, Part::whole(), &mut NoProgress)
+    film(rt.alloc(), &mut machine, Span::whole(), &mut NoProgress)
         .ok()
         .expect(rt, "memory")
 }
@@ -19,7 +21,7 @@ fn reel_of(rt: &(impl AllocGlobal + Abort), listing: &str, script: &str, limit: 
 /// Records a part of PROG's run, whose limit is 20.
 fn part_of(rt: &(impl AllocGlobal + Abort), from: u64, to: u64) -> Recording {
     let mut machine = machine_of(rt, PROG, "1 pro down\n7 pro up\n15 pro down\n", 20);
-    film(rt.alloc(), &mut machine, Part { from, to }, &mut NoProgress)
+    film(rt.alloc(), &mut machine, Span { from, to }, &mut NoProgress)
         .ok()
         .expect(rt, "memory")
 }
@@ -300,7 +302,7 @@ fn two_runs(rt: HostRuntime) {
 fn reports_how_far_it_has_come(rt: HostRuntime) {
     let mut machine = machine_of(&rt, PROG, "", 2_500_000);
     let mut reported = RecordingProgress::new(rt.alloc());
-    let recording = film(rt.alloc(), &mut machine, Part::whole(), &mut reported)
+    let recording = film(rt.alloc(), &mut machine, Span::whole(), &mut reported)
         .ok()
         .expect(&rt, "memory");
     same(&rt, recording.stop, Some(Stop::Limit), "stop");

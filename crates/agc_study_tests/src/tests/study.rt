@@ -11,12 +11,11 @@ use agc_asm::{AssemblyFault, SourceFault};
 use agc_diff::SideNames;
 use agc_io::NoProgress;
 use agc_listing::{LineFault, Report};
-use agc_load::LoadFault;
+use agc_load::{LoadFault, RunFiles};
 use agc_store::{RopeFault, RopeForm};
 use agc_study_args::{
     CompareArgs, FilmArgs, JobsArgs, ListArgs, ListStyle, ReadFile, RunInputs, RunOptions,
 };
-use agc_timeline::{Part, RunFiles};
 use agc_trace::{LineForm, Span};
 use std::io::{self, ErrorKind, Read};
 use std::process::Abort;
@@ -645,7 +644,7 @@ fn the_run_at_fault_is_named(rt: HostRuntime) {
 }
 
 /// Returns the arguments to film a run up to cycle 10.
-fn filming(files: RunFiles, part: Part, watch: Option<String>) -> FilmArgs {
+fn filming(files: RunFiles, part: Span, watch: Option<String>) -> FilmArgs {
     FilmArgs {
         files,
         other: None,
@@ -673,7 +672,7 @@ fn runs_are_filmed(rt: HostRuntime) {
         rope: owned(&rt, "prog12"),
         script: owned(&rt, "pro"),
     };
-    let args = filming(files, Part::whole(), None);
+    let args = filming(files, Span::whole(), None);
     let rope = [0x70, 0x08, 0x00, 0x0C, 0x04, 0x10, 0x30, 0x06, 0xB0, 0xF2];
     let page = filmed(&rt, &args, rope.as_slice(), b"7 pro down")
         .ok()
@@ -780,7 +779,7 @@ fn the_text_of_watch_is_reported_before_that_of_until(rt: HostRuntime) {
 fn filming_tables(rt: &(impl AllocGlobal + Abort), watch: &str) -> FilmArgs {
     filming(
         no_files(rt),
-        Part { from: 9, to: 10 },
+        Span { from: 9, to: 10 },
         Some(owned(rt, watch)),
     )
 }
