@@ -3,7 +3,7 @@ ghost use Rattle.std.specs.Prelude.{◌≡◌, option_map};
 ghost use Rattle.agc_asm.specs.Body.{alias_name, alias_named, alias_operand, alias_order};
 
 /// Another name of an order.
-#[derive(Clone, Copy, Debug, PartialEq, Eq)]
+#[derive(Clone, Copy, PartialEq, Eq)]
 pub enum Alias {
     /// CA of a name in fixed memory, or of a number.
     Caf,

@@ -12,7 +12,7 @@ use crate::mnemonic::Directive;
 pub(crate) struct Operation<'a> {
     /// The words of the line from here on, in the source's own form.
     pub body: &'a [u8],
-    /// A minus stands before it: its words are complemented.
+    /// Whether a minus is before it, which complements its words.
     pub minus: bool,
     /// The name in the source, if it is another name of an order.
     pub alias: Option<Alias>,

@@ -127,20 +127,30 @@ fn orders(alloc: Global) -> Result<Vec<&'static [u8]>, AllocError> {
     Ok(names)
 }
 
-/// Returns the question whether the mnemonic most similar to a word was meant: `; did you mean CA?`. Fails if out of
-/// memory.
+/// Returns the question whether the mnemonic most similar to a word was meant: `; did you mean CA?`. If another name of
+/// an order is the most similar one, as CAF, the order's own mnemonic is in the question. Fails if out of memory.
 pub fn nearest_order(alloc: Global, word: &[u8]) -> Result<String, AllocError> {
     let mut text = String::new(alloc);
     let names = orders(alloc)?;
     if !names.is_empty() {
         text.push_str("; did you mean ")?;
-        push_file_bytes(&mut text, most_similar_name(alloc, word, names.as_slice())?)?;
+        let near = most_similar_name(alloc, word, names.as_slice())?;
+        push_file_bytes(&mut text, own_mnemonic(near))?;
         text.push_str("?")?;
     }
     Ok(text)
 }
 
-/// Appends that no line has a name, and the nearest name.
+/// Returns the own mnemonic of the order that a name stands for, or the name itself.
+fn own_mnemonic(name: &[u8]) -> &[u8] {
+    match Alias::from_name(name) {
+        Some(alias) => alias.order().as_bytes(),
+        None => name,
+    }
+}
+
+/// Appends that no line has a name, and the nearest name; or that the line of that name gives it no place, because it is
+/// faulty or EQUALS leads back to it.
 fn push_no_name(
     alloc: Global,
     text: &mut String,
@@ -148,6 +158,10 @@ fn push_no_name(
     name: &[u8],
 ) -> Result<(), AllocError> {
     let names = names_of(alloc, file)?;
+    if names.as_slice().iter().any(|known| *known == name) {
+        text.push_str("the line of ")?;
+        return push_quoted_then(text, name, " gives it no place\n");
+    }
     push_unknown_name(alloc, text, name, "name", names.as_slice())
 }
 

@@ -424,7 +424,7 @@ fn listing_reports(rt: &(impl AllocGlobal + Abort), listing: &[u8], text: &str) 
 /// Texts for `weave`: no fault, or the faulty line and word.
 #[test]
 fn listings(rt: HostRuntime) {
-    let texts: [(&[u8], &str); 14] = [
+    let texts: [(&[u8], &str); 15] = [
         (b"", "text: no fault\n"),
         (b"START CA PROG\nPROG OCT 54171", "text: no fault\n"),
         (
@@ -446,6 +446,10 @@ fn listings(rt: HostRuntime) {
         (
             b" CA ONE\n CA 1\n CA TWO\n",
             "text line 1: no line has this name\n     CA ONE\n    column 5: unknown name `ONE`\ntext line 3: no line has this name\n     CA TWO\n    column 5: unknown name `TWO`\n",
+        ),
+        (
+            b"X EQUALS Y\nY EQUALS X\n",
+            "text line 1: no line has this name\n    X EQUALS Y\n    column 10: the line of `Y` gives it no place\ntext line 2: no line has this name\n    Y EQUALS X\n    column 10: the line of `X` gives it no place\n",
         ),
         (b"# a rope\n4000 14000 TCF 4000", "text: no fault\n"),
         (
