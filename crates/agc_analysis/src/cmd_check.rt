@@ -46,7 +46,7 @@ where
     status
 }
 
-/// Checks the text of live keys and the text of a rope, whichever are given. If one cannot be checked, reports that and
+/// Checks the text of live keys and the text of a rope, whichever are present. If one cannot be checked, reports that and
 /// returns the exit status.
 fn check_texts<R, W: Write, E: Write, N: Write, P>(
     rt: &R,
@@ -83,7 +83,7 @@ fn join_reports<W: Write, E: Write, N: Write, P>(
     }
 }
 
-/// Checks a rope alone, if one is given without a script.
+/// Checks a rope alone, if there is one without a script.
 fn check_rope<R, W: Write, E: Write, N: Write, P>(
     rt: &R,
     args: &CheckArgs,
@@ -104,7 +104,7 @@ where
     }
 }
 
-/// Checks the text of live keys, if one is given.
+/// Checks the text of live keys, if there is one.
 fn check_keys<R, W: Write, E: Write, N: Write, P>(
     rt: &R,
     path: &Option<String>,
@@ -125,7 +125,7 @@ where
     }
 }
 
-/// Checks the text of a rope, if one is given, and writes the remarks on its cells.
+/// Checks the text of a rope, if there is one, and writes the remarks on its cells.
 fn check_listing<R, W: Write, E: Write, N: Write, P>(
     rt: &R,
     path: &Option<String>,

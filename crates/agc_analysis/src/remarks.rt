@@ -9,7 +9,7 @@ pub struct RunStop {
     pub why: Stop,
 }
 
-/// Returns the stop of a machine's run, if it has come to it.
+/// Returns the stop of a machine's run, if the machine has stopped.
 pub(crate) fn stop_of(machine: &Machine) -> Option<RunStop> {
     let cycle = machine.cycle();
     match machine.upcoming() {

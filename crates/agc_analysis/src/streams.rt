@@ -1,6 +1,6 @@
 //! The streams that a subcommand writes to.
 
-/// Where a subcommand writes its result, an error, the remarks beside them, and how far a run has come.
+/// The streams of a subcommand: for its result, an error, its remarks, and the progress of a run.
 #[derive(Debug, Drop)]
 pub struct Streams<W, E, N, P> {
     /// Standard output: the result.

@@ -45,7 +45,7 @@ pub struct SaveFile {
 
 impl SaveFile {
     /// Reserves the file before the session starts: creates it, or checks that it is an empty file, or any file with
-    /// `force`. The temporary file has `number` in its name, which tells sessions apart.
+    /// `force`. The temporary file has `number` in its name, which differs between sessions.
     pub fn reserve<R: Files + AllocGlobal>(
         rt: &R,
         path: &str,

@@ -61,7 +61,7 @@ impl Typed {
         Some(byte)
     }
 
-    /// Returns the byte at a place, if so many were read.
+    /// Returns the byte at a place, if that many were read.
     fn at(&self, place: usize) -> Option<u8> {
         if place < self.read {
             self.bytes.get(place).copied()

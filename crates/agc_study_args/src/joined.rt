@@ -1,4 +1,4 @@
-//! Joins a name and its offset that stand apart in a question: `DIG +2` is `DIG+2`.
+//! Joins a name and its offset with a gap between them: `DIG +2` is `DIG+2`.
 ghost use Rattle.std.specs.Prelude.{◌≡◌, ◌<◌, IfOk, get_or, length};
 ghost use Rattle.agc_study_args.specs.Joined.{is_gap, joined};
 ghost use Rattle.agc_listing.specs.Number.{is_sign};

@@ -55,7 +55,7 @@ pub(crate) fn repair_args(alloc: Global, given: &ArgMatches<'_>) -> Result<Args,
     }))
 }
 
-/// Returns whether `--form parity` is given to `repair`; it takes no other form.
+/// Returns whether the command has `--form parity`; `repair` takes no other form.
 fn is_parity_form(alloc: Global, form: Option<&str>) -> Result<bool, ArgsFault> {
     match form {
         None => Ok(false),
@@ -75,7 +75,7 @@ pub(crate) fn patch_args(alloc: Global, given: &ArgMatches<'_>) -> Result<Args, 
     }))
 }
 
-/// Parses the two ropes or sources of `compare --words`, if they are given.
+/// Parses the two ropes or sources of `compare --words`, if there are any.
 pub(crate) fn words_args(alloc: Global, given: &ArgMatches<'_>) -> Result<Option<Args>, ArgsFault> {
     let Some([rope, other]) = given.get_strs("words") else {
         return Ok(None);

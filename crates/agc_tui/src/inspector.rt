@@ -12,7 +12,7 @@ use agc_trace::{push_next_line_with, push_registers_line};
 use std::alloc::{AllocError, Global};
 
 /// Adds the last boundaries of a session, in `most` lines at most, its registers, and what comes next, each a line after
-/// a space. With a symbol table, the name of an order's place stands beside it. Fails if memory runs out.
+/// a space. With a symbol table, the name of an order's place follows it. Fails if memory runs out.
 pub fn push_inspector(
     alloc: Global,
     text: &mut String,

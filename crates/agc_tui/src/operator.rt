@@ -456,8 +456,8 @@ impl Operator {
         }
     }
 
-    /// Goes on with a rerun for about this many cycles, or to its end, where the last boundaries are taken one by one so
-    /// that they are recorded.
+    /// Continues a rerun for about this many cycles, or to its end. Takes its last boundaries one by one, so that they are
+    /// recorded.
     pub fn rerun(&mut self, cycles: u64) {
         let Some(rerun) = self.rerun else {
             return;
