@@ -96,7 +96,7 @@ fn lines_are_parsed_and_shown(rt: HostRuntime) {
         "R1 12345",
         "FLASH",
         "LAMPS COMP",
-        "R4 +00000",
+        "R0 +00000",
     ] {
         assert!(rt; PanelLine::parse(line.as_bytes()).is_none());
     }
