@@ -165,8 +165,8 @@ def _bound(
 
 
 def _wait(server: Server, open_page: bool) -> None:
-    """Prints the address, and serves until one of the signals that end it. What is ignored, as a hang-up by nohup, stays
-    so."""
+    """Prints the address, and serves until one of the signals that end it. A signal that is ignored, such as a hang-up with
+    nohup, stays ignored."""
 
     def end(number: int, frame: Any) -> None:
         for each in ENDS:

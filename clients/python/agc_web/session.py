@@ -281,7 +281,7 @@ class Session:
             self._look()
         except Ended as ended:
             self._note_end(ended)
-        except Exception:  # what went wrong first is shown; the thread goes on, so that the script can be had
+        except Exception:  # the first fault is shown; the thread continues, so that the script can be saved
             self._publish_time()
 
     def _note_end(self, ended: Ended) -> None:
