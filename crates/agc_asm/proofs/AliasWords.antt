@@ -7,7 +7,7 @@ use Rattle.agc_order.specs.Row.{all_basics, all_extracodes}
 use Rattle.agc_listing.specs.Number.{count_named, offset_parsed}
 use Rattle.agc_asm.specs.Alias.{alias_word, is_extracode_alias}
 use Rattle.agc_asm.specs.Body.{alias_name, alias_named, alias_operand, alias_order, all_aliases, spelled}
-use Rattle.agc_asm.specs.Encode.{word_meaning}
+use Rattle.agc_asm.specs.Encode.{encode_word}
 use Rattle.agc_asm.specs.Mnemonic.{all_directives, basic_named, directive_name, directive_named, extracode_named}
 use Rattle.agc_asm.specs.Name.{Naming}
 use Rattle.agc_asm.specs.Row.{basic_word, extracode_word}
@@ -16,8 +16,8 @@ use Rattle.agc_asm.specs.declared.alias.Alias.TheVariants as alias
 use Rattle.agc_asm.specs.declared.encode.Banks.{Banks}
 
 pub alias_words : (a : Alias) (bits : ℕ) → alias_word a ≡ Some bits → (naming : Naming) (here : ℕ) (banks : Banks)
-    → word_meaning naming here (is_extracode_alias a) banks (alias_name a ∷ []) ≡ Ok (number_from_pattern 15 bits)
-unfolding word_meaning spelled alias_name alias_named alias_operand alias_order all_aliases directive_named directive_name all_directives basic_named extracode_named all_basics all_extracodes basic_word extracode_word offset_parsed count_named number_of
+    → encode_word naming here (is_extracode_alias a) banks (alias_name a ∷ []) ≡ Ok (number_from_pattern 15 bits)
+unfolding encode_word spelled alias_name alias_named alias_operand alias_order all_aliases directive_named directive_name all_directives basic_named extracode_named all_basics all_extracodes basic_word extracode_word offset_parsed count_named number_of
 alias_words alias.Caf bits is naming here banks = absurd cc
 alias_words alias.Cae bits is naming here banks = absurd cc
 alias_words alias.Tcr bits is naming here banks = absurd cc

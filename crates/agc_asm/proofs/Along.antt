@@ -19,6 +19,8 @@ use Rattle.agc_asm.specs.declared.fault.SourceFault.TheVariants as fault
 use Rattle.agc_listing.specs.declared.location.Location.{Location}
 use Rattle.agc_listing.specs.declared.location.Location.TheVariants as location
 use Rattle.agc_asm.proofs.Held.{GoesIntoRope}
+use Rattle.agc_interpretive.specs.Pending.{nothing_due}
+use Rattle.agc_interpretive.specs.declared.pending.Pending.{Pending}
 
 -- at the place of the next line a listing reads an extracode if one is expected
 abbrev pub Agrees : List Number → List ℕ → Bool → At → Type 0
@@ -72,28 +74,28 @@ next_read words bank left leads word inside is same =
     ap (is_extracode_at words) sum ∙ plain ∙ leads_same leads here word same
 
 -- what is read at the place of a line
-pub read_here : (words : List Number) (since : ℕ) (left used : List ℕ) (here : At) (leads : Bool) (count place : ℕ) → 0 < count → Sound words since (record { left = left; used = used; at = here }) leads
-    → room_at (record { left = left; used = used; at = here }) here count ≡ Ok place → is_extracode_at words since ≡ false → is_extracode_at words place ≡ leads
-read_here words since left used (at.Cell cell) leads count place some h is none = absurd cc
-read_here words since left used (at.Bank bank) leads count place some h is none =
+pub read_here : (words : List Number) (since : ℕ) (left used : List ℕ) (due : Pending) (here : At) (leads : Bool) (count place : ℕ) → 0 < count → Sound words since (record { left = left; used = used; at = here; due = due }) leads
+    → room_at (record { left = left; used = used; at = here; due = due }) here count ≡ Ok place → is_extracode_at words since ≡ false → is_extracode_at words place ≡ leads
+read_here words since left used due (at.Cell cell) leads count place some h is none = absurd cc
+read_here words since left used due (at.Bank bank) leads count place some h is none =
     let r = has_room bank (get_or left bank 0) count place is in
     rw r.here (h.along none (omega (arith, r.fits)))
 
 -- and that place is in the rope
-pub place_inside : (words : List Number) (since : ℕ) (left used : List ℕ) (here : At) (leads : Bool) (count place : ℕ) → 0 < count → Sound words since (record { left = left; used = used; at = here }) leads
-    → room_at (record { left = left; used = used; at = here }) here count ≡ Ok place → place + count ≤ 0o110000
-place_inside words since left used (at.Cell cell) leads count place some h is = absurd cc
-place_inside words since left used (at.Bank bank) leads count place some h is =
+pub place_inside : (words : List Number) (since : ℕ) (left used : List ℕ) (due : Pending) (here : At) (leads : Bool) (count place : ℕ) → 0 < count → Sound words since (record { left = left; used = used; at = here; due = due }) leads
+    → room_at (record { left = left; used = used; at = here; due = due }) here count ≡ Ok place → place + count ≤ 0o110000
+place_inside words since left used due (at.Cell cell) leads count place some h is = absurd cc
+place_inside words since left used due (at.Bank bank) leads count place some h is =
     let r = has_room bank (get_or left bank 0) count place is in
     let below : bank < 36 = h.bank in
     omega (arith, r.fits, r.here)
 
 -- after a line of one word
-pub after_one : (words : List Number) (since : ℕ) (left used : List ℕ) (here : At) (leads : Bool) (place : ℕ) (word : Number) → Sound words since (record { left = left; used = used; at = here }) leads
-    → room_at (record { left = left; used = used; at = here }) here 1 ≡ Ok place → pattern_of 15 (fixed_at place words) ≡ pattern_of 15 word
-    → Sound words since (after_words (record { left = left; used = used; at = here }) here 1) (next_is_extracode leads word)
-after_one words since left used (at.Cell cell) leads place word h is same = absurd cc
-after_one words since left used (at.Bank bank) leads place word h is same =
+pub after_one : (words : List Number) (since : ℕ) (left used : List ℕ) (due : Pending) (here : At) (leads : Bool) (place : ℕ) (word : Number) → Sound words since (record { left = left; used = used; at = here; due = due }) leads
+    → room_at (record { left = left; used = used; at = here; due = due }) here 1 ≡ Ok place → pattern_of 15 (fixed_at place words) ≡ pattern_of 15 word
+    → Sound words since (after_words (record { left = left; used = used; at = here; due = due }) here 1) (next_is_extracode leads word)
+after_one words since left used due (at.Cell cell) leads place word h is same = absurd cc
+after_one words since left used due (at.Bank bank) leads place word h is same =
     let l = get_or left bank 0 in
     let r = has_room bank l 1 place is in
     let below : bank < 36 = h.bank in
@@ -107,11 +109,11 @@ after_one words since left used (at.Bank bank) leads place word h is same =
     }
 
 -- after data
-pub after_data : (words : List Number) (since : ℕ) (left used : List ℕ) (here : At) (leads : Bool) (count place : ℕ) → Sound words since (record { left = left; used = used; at = here }) leads
-    → room_at (record { left = left; used = used; at = here }) here count ≡ Ok place
-    → Sound words (place_of (location_at (after_words (record { left = left; used = used; at = here }) here count) (after_words (record { left = left; used = used; at = here }) here count).at)) (after_words (record { left = left; used = used; at = here }) here count) false
-after_data words since left used (at.Cell cell) leads count place h is = absurd cc
-after_data words since left used (at.Bank bank) leads count place h is =
+pub after_data : (words : List Number) (since : ℕ) (left used : List ℕ) (due : Pending) (here : At) (leads : Bool) (count place : ℕ) → Sound words since (record { left = left; used = used; at = here; due = due }) leads
+    → room_at (record { left = left; used = used; at = here; due = due }) here count ≡ Ok place
+    → Sound words (place_of (location_at (after_words (record { left = left; used = used; at = here; due = due }) here count) (after_words (record { left = left; used = used; at = here; due = due }) here count).at)) (after_words (record { left = left; used = used; at = here; due = due }) here count) false
+after_data words since left used due (at.Cell cell) leads count place h is = absurd cc
+after_data words since left used due (at.Bank bank) leads count place h is =
     record {
       banks = length-set left bank (get_or left bank 0 + count) ∙ h.banks;
       bank = h.bank;
@@ -120,12 +122,12 @@ after_data words since left used (at.Bank bank) leads count place h is =
 
 -- after a line without words
 abbrev at_cell : List ℕ → List ℕ → ℕ → LocationCounter
-at_cell left used cell = record { left = left; used = used; at = at.Cell cell }
+at_cell left used cell = record { left = left; used = used; at = at.Cell cell; due = nothing_due }
 
-after_cells_by : (words : List Number) (since : ℕ) (left used : List ℕ) (cell : ℕ) (leads room : Bool) → Sound words since (at_cell left used cell) leads → (more : ℕ)
+after_cells_by : (words : List Number) (since : ℕ) (left used : List ℕ) (due : Pending) (cell : ℕ) (leads room : Bool) → Sound words since (record { left = left; used = used; at = at.Cell cell; due = due }) leads → (more : ℕ)
     → IfOk (if room then Ok (at_cell left used more) else Err fault.Full) (λ next. Sound words since next (leads && true))
-after_cells_by words since left used cell leads true h more = record { banks = h.banks; bank = tt; along = λ none. tt }
-after_cells_by words since left used cell leads false h more = tt
+after_cells_by words since left used due cell leads true h more = record { banks = h.banks; bank = tt; along = λ none. tt }
+after_cells_by words since left used due cell leads false h more = tt
 
 -- after words in erasable memory
 cells_any_by : (words : List Number) (left used : List ℕ) (other : LocationCounter → ℕ) (more : ℕ) (leads room : Bool) → length left ≡ 36
@@ -133,15 +135,15 @@ cells_any_by : (words : List Number) (left used : List ℕ) (other : LocationCou
 cells_any_by words left used other more leads true h = record { banks = h; bank = tt; along = λ none. tt }
 cells_any_by words left used other more leads false h = tt
 
-pub after_cells_any : (words : List Number) (left used : List ℕ) (here : At) (other : LocationCounter → ℕ) (cell count : ℕ) (leads : Bool) → length left ≡ 36
-    → IfOk (after_cells (record { left = left; used = used; at = here }) (at.Cell cell) count) (λ next. Sound words (other next) next leads)
-after_cells_any words left used here other cell count leads h =
+pub after_cells_any : (words : List Number) (left used : List ℕ) (due : Pending) (here : At) (other : LocationCounter → ℕ) (cell count : ℕ) (leads : Bool) → length left ≡ 36
+    → IfOk (after_cells (record { left = left; used = used; at = here; due = due }) (at.Cell cell) count) (λ next. Sound words (other next) next leads)
+after_cells_any words left used due here other cell count leads h =
     cells_any_by words left used other (cell + count) leads (nat_le (cell + count) 0o4000 && nat_le (cell + count) (stretch_end cell)) h
 
-pub after_cell_line : (words : List Number) (since : ℕ) (left used : List ℕ) (here : At) (leads : Bool) (count : ℕ) → Sound words since (record { left = left; used = used; at = here }) leads
-    → IfOk (after_cells (record { left = left; used = used; at = here }) here count) (λ next. Sound words since next (leads && true))
-after_cell_line words since left used (at.Bank bank) leads count h = tt
-after_cell_line words since left used (at.Cell cell) leads count h = after_cells_by words since left used cell leads (nat_le (cell + count) 0o4000 && nat_le (cell + count) (stretch_end cell)) h (cell + count)
+pub after_cell_line : (words : List Number) (since : ℕ) (left used : List ℕ) (due : Pending) (here : At) (leads : Bool) (count : ℕ) → Sound words since (record { left = left; used = used; at = here; due = due }) leads
+    → IfOk (after_cells (record { left = left; used = used; at = here; due = due }) here count) (λ next. Sound words since next (leads && true))
+after_cell_line words since left used due (at.Bank bank) leads count h = tt
+after_cell_line words since left used due (at.Cell cell) leads count h = after_cells_by words since left used due cell leads (nat_le (cell + count) 0o4000 && nat_le (cell + count) (stretch_end cell)) h (cell + count)
 
 pub after_name_line : (words : List Number) (since : ℕ) (counter : LocationCounter) (leads : Bool) → Sound words since counter leads → Sound words since counter (leads && true)
 after_name_line words since counter leads h = rw (and-true leads) h
@@ -167,13 +169,13 @@ after_bank words since counter leads bank h goes =
     }
 
 -- after BANK without a number
-pub after_resumed : (words : List Number) (since : ℕ) (left used : List ℕ) (here : At) (leads : Bool) → Sound words since (record { left = left; used = used; at = here }) leads
-    → IfOk (resumed (record { left = left; used = used; at = here }) here) (λ next. Sound words (place_of (location_at next next.at)) next (leads && false))
-after_resumed words since left used (at.Cell cell) leads h = tt
-after_resumed words since left used (at.Bank bank) leads h = after_bank words since (record { left = left; used = used; at = at.Bank bank }) leads bank h h.bank
+pub after_resumed : (words : List Number) (since : ℕ) (left used : List ℕ) (due : Pending) (here : At) (leads : Bool) → Sound words since (record { left = left; used = used; at = here; due = due }) leads
+    → IfOk (resumed (record { left = left; used = used; at = here; due = due }) here) (λ next. Sound words (place_of (location_at next next.at)) next (leads && false))
+after_resumed words since left used due (at.Cell cell) leads h = tt
+after_resumed words since left used due (at.Bank bank) leads h = after_bank words since (record { left = left; used = used; at = at.Bank bank; due = due }) leads bank h h.bank
 
 -- after a range of cells
-pub after_range_line : (words : List Number) (since : ℕ) (left used : List ℕ) (here : At) (leads : Bool) (end : ℕ) → Sound words since (record { left = left; used = used; at = here }) leads
-    → IfOk (after_range (record { left = left; used = used; at = here }) here end) (λ next. Sound words since next (leads && true))
-after_range_line words since left used (at.Bank bank) leads end h = tt
-after_range_line words since left used (at.Cell cell) leads end h = record { banks = h.banks; bank = tt; along = λ none. tt }
+pub after_range_line : (words : List Number) (since : ℕ) (left used : List ℕ) (due : Pending) (here : At) (leads : Bool) (end : ℕ) → Sound words since (record { left = left; used = used; at = here; due = due }) leads
+    → IfOk (after_range (record { left = left; used = used; at = here; due = due }) here end) (λ next. Sound words since next (leads && true))
+after_range_line words since left used due (at.Bank bank) leads end h = tt
+after_range_line words since left used due (at.Cell cell) leads end h = record { banks = h.banks; bank = tt; along = λ none. tt }

@@ -4,7 +4,7 @@ use Rattle.std.proofs.Common.{refl}
 use Rattle.agc_word.specs.Number.{Number}
 use Rattle.agc_listing.specs.Number.{begins_with_minus}
 use Rattle.agc_asm.specs.Body.{alias_named, spelled, spelled_by, without_minus, writes_nothing}
-use Rattle.agc_asm.specs.Encode.{complemented, complemented_pair, complemented_word, less_than_zero, lowered, order_meaning, pair_meaning, pair_spelled, plain_meaning, word_meaning}
+use Rattle.agc_asm.specs.Encode.{complemented, complemented_pair, complemented_word, less_than_zero, lowered, order_meaning, encode_pair, pair_spelled, plain_meaning, encode_word}
 use Rattle.agc_asm.specs.Mnemonic.{directive_named}
 use Rattle.agc_asm.specs.Name.{Naming}
 use Rattle.agc_asm.specs.declared.encode.Banks.{Banks}
@@ -25,9 +25,9 @@ twice (Err why) word is = absurd cc
 twice (Ok mine) word is = let same : mine ≡ word = cc in rw same refl
 
 pub complements_word : (naming : Naming) (here : ℕ) (leads : Bool) (banks : Banks) (name : List ℕ) (rest : List (List ℕ)) (word : Number) → begins_with_minus name ≡ false
-    → writes_nothing (directive_named name) ≡ false → word_meaning naming here leads banks (name ∷ rest) ≡ Ok word
-    → word_meaning naming here leads banks ((0x2D ∷ name) ∷ rest) ≡ Ok (complemented true word)
-unfolding word_meaning spelled
+    → writes_nothing (directive_named name) ≡ false → encode_word naming here leads banks (name ∷ rest) ≡ Ok word
+    → encode_word naming here leads banks ((0x2D ∷ name) ∷ rest) ≡ Ok (complemented true word)
+unfolding encode_word spelled
 complements_word naming here leads banks name rest word plain writes is =
     let spelt = spelled_by (alias_named name) name rest in
     let own : complemented_word false (plain_meaning naming here leads banks (alias_named name) spelt) ≡ Ok word = rw (plain, no_minus name plain) at is in
@@ -39,9 +39,9 @@ both_twice (Err why) pair is = absurd cc
 both_twice (Ok mine) pair is = let same : mine ≡ pair = cc in rw same refl
 
 pub complements_pair : (naming : Naming) (here : ℕ) (banks : Banks) (name : List ℕ) (rest : List (List ℕ)) (pair : Pair) → begins_with_minus name ≡ false
-    → writes_nothing (directive_named name) ≡ false → pair_meaning naming here banks (name ∷ rest) ≡ Ok pair
-    → pair_meaning naming here banks ((0x2D ∷ name) ∷ rest) ≡ Ok (record { upper = complemented true pair.upper; lower = complemented true pair.lower })
-unfolding pair_meaning spelled
+    → writes_nothing (directive_named name) ≡ false → encode_pair naming here banks (name ∷ rest) ≡ Ok pair
+    → encode_pair naming here banks ((0x2D ∷ name) ∷ rest) ≡ Ok (record { upper = complemented true pair.upper; lower = complemented true pair.lower })
+unfolding encode_pair spelled
 complements_pair naming here banks name rest pair plain writes is =
     let spelt = spelled_by (alias_named name) name rest in
     let own : complemented_pair false (pair_spelled naming here banks spelt) ≡ Ok pair = rw (plain, no_minus name plain) at is in
@@ -54,7 +54,7 @@ as_it_is (Ok word) = refl
 
 pub adds_offset : (naming : Naming) (here : ℕ) (leads : Bool) (banks : Banks) (name : List ℕ) (rest : List (List ℕ)) (less : ℕ) → begins_with_minus name ≡ false
     → alias_named name ≡ None → directive_named name ≡ None → less_than_zero rest ≡ Some less
-    → word_meaning naming here leads banks (name ∷ rest) ≡ lowered less (order_meaning naming here leads name (codes "0" ∷ []))
-unfolding word_meaning spelled
+    → encode_word naming here leads banks (name ∷ rest) ≡ lowered less (order_meaning naming here leads name (codes "0" ∷ []))
+unfolding encode_word spelled
 adds_offset naming here leads banks name rest less plain own order below =
     rw (plain, no_minus name plain, own, order, below) (as_it_is (lowered less (order_meaning naming here leads name (codes "0" ∷ []))))

@@ -1,5 +1,5 @@
 -- The words of a source have fifteen bits.
-use Rattle.std.specs.Prelude.{◌≡◌, ℕ, ◌+◌, ◌-◌, ◌/◌, ◌%◌, ◌^◌, ◌<◌, Bool, true, false, List, [], ◌∷◌, codes, Option, Some, None, Result, Ok, Err, IfOk, IfSome}
+use Rattle.std.specs.Prelude.{◌≡◌, ℕ, ◌+◌, ◌-◌, ◌*◌, ◌/◌, ◌%◌, ◌^◌, ◌<◌, Bool, true, false, List, [], ◌∷◌, codes, Option, Some, None, Result, Ok, Err, IfOk, IfSome}
 use Rattle.std.proofs.Common.{arith}
 use Rattle.std.proofs.lemmas.Bool.Decides.{nat_tests}
 use Rattle.agc_word.specs.Number.{Number, number_from_pattern, pattern_of}
@@ -8,7 +8,7 @@ use Rattle.agc_order.specs.Row.{basic_row, extracode_row}
 use Rattle.agc_order.specs.declared.order.Basic.{Basic}
 use Rattle.agc_order.specs.declared.order.Extracode.{Extracode}
 use Rattle.agc_listing.specs.declared.order.Operand.{Operand}
-use Rattle.agc_listing.specs.Location.{complete_address}
+use Rattle.agc_listing.specs.Location.{bank_register, complete_address}
 use Rattle.agc_asm.specs.Mnemonic.{basic_named, directive_named, extracode_named}
 use Rattle.agc_asm.specs.Name.{Naming}
 use Rattle.agc_listing.specs.Number.{begins_with_minus, octal_word, without_sign, word_of_pattern}
@@ -18,7 +18,7 @@ use Rattle.agc_asm.specs.declared.fault.SourceFault.{SourceFault}
 use Rattle.agc_asm.specs.declared.mnemonic.Directive.{Directive}
 use Rattle.agc_asm.specs.declared.mnemonic.Directive.TheVariants as directive
 use Rattle.agc_listing.specs.declared.number.Signed.{Signed}
-use Rattle.agc_asm.specs.Encode.{adres_word, any_address, bank_word, basic_with, bbcon_word, cadr_word, cell_in, complemented, complemented_pair, complemented_some, complemented_word, directive_meaning, ecadr_word, extracode_with, if_basic, if_extracode, less_than_zero, lowered, major_mode, major_mode_in, misfit, number_word, octal_in, octal_pair_in, or_bad_number, order_by_offset, order_meaning, pair_by, pair_by_word, pair_meaning, pair_of_number, pair_of_octal, pair_of_place, pair_spelled, place_in, plain_meaning, unless_misfit, verb_noun, verb_noun_in, word_by, word_meaning}
+use Rattle.agc_asm.specs.Encode.{channel_of, downlink_word, list_address, pair_for_fb, starred_bank_word, adres_word, any_address, bank_word, basic_with, bbcon_word, cadr_word, cell_in, complemented, complemented_pair, complemented_some, complemented_word, directive_meaning, ecadr_word, extracode_with, if_basic, if_extracode, less_than_zero, lowered, major_mode, major_mode_in, operand_fault, number_word, octal_in, octal_pair_in, or_bad_number, order_by_offset, order_meaning, pair_by, pair_by_word, encode_pair, pair_of_number, pair_of_octal, pair_of_place, pair_spelled, place_in, plain_meaning, unless_fault, verb_noun, verb_noun_in, word_by, encode_word}
 use Rattle.agc_asm.specs.Body.{alias_in, has_minus, spelled}
 use Rattle.agc_asm.specs.Numeral.{number_in}
 use Rattle.agc_asm.specs.declared.alias.Alias.{Alias}
@@ -127,6 +127,14 @@ mode_fits : (word : Option (List ℕ)) → IfOk (major_mode_in word) Fits
 mode_fits (Some word) = mode_number (decimal_number 2 word)
 mode_fits None = tt
 
+downlink_fits : (code : ℕ) (address : Result ℕ SourceFault) → IfOk (downlink_word code address) Fits
+downlink_fits code (Ok address) = pattern_fits (code + address)
+downlink_fits code (Err why) = tt
+
+starred_fits : (words : List (List ℕ)) → IfOk (starred_bank_word words) Fits
+starred_fits [] = pattern_fits 0o66100
+starred_fits (word ∷ words) = tt
+
 directive_fits : (naming : Naming) (here : ℕ) (banks : Banks) (d : Directive) (words : List (List ℕ)) → IfOk (directive_meaning naming here banks d words) Fits
 directive_fits naming here banks directive.SetLoc words = tt
 directive_fits naming here banks directive.Bank words = tt
@@ -157,6 +165,20 @@ directive_fits naming here banks directive.Count words = tt
 directive_fits naming here banks directive.CountStarred words = tt
 directive_fits naming here banks directive.Memory words = tt
 directive_fits naming here banks directive.BankSum words = tt
+directive_fits naming here banks directive.PairFcadr words = tt
+directive_fits naming here banks directive.NounVerb words = verb_fits (only_of words)
+directive_fits naming here banks directive.BbconStarred words = starred_fits words
+directive_fits naming here banks directive.Dnadr1 words = downlink_fits 0 (cell_in (location_for naming here words))
+directive_fits naming here banks directive.Dnadr2 words = downlink_fits 0o4000 (cell_in (location_for naming here words))
+directive_fits naming here banks directive.Dnadr3 words = downlink_fits 0o10000 (cell_in (location_for naming here words))
+directive_fits naming here banks directive.Dnadr4 words = downlink_fits 0o14000 (cell_in (location_for naming here words))
+directive_fits naming here banks directive.Dnadr5 words = downlink_fits 0o20000 (cell_in (location_for naming here words))
+directive_fits naming here banks directive.Dnadr6 words = downlink_fits 0o24000 (cell_in (location_for naming here words))
+directive_fits naming here banks directive.Dnptr words = downlink_fits 0o30000 (list_address (location_for naming here words))
+directive_fits naming here banks directive.Dnchan words = downlink_fits 0o34000 (channel_of (value_of naming here words))
+directive_fits naming here banks directive.IsMinus words = tt
+directive_fits naming here banks directive.IsEcadr words = tt
+directive_fits naming here banks directive.Subro words = tt
 
 lowered_fits : (less : ℕ) (word : Result Number SourceFault) → IfOk (lowered less word) Fits
 lowered_fits less (Ok word) = pattern_fits ((pattern_of 15 word + (2 ^ 17 - less)) % 2 ^ 15)
@@ -170,25 +192,25 @@ by_fits : (naming : Naming) (here : ℕ) (leads : Bool) (banks : Banks) (d : Opt
 by_fits naming here leads banks (Some d) word words = directive_fits naming here banks d words
 by_fits naming here leads banks None word words = offset_fits naming here leads (less_than_zero words) word words
 
-misfit_fits : (why : Option SourceFault) (word : Result Number SourceFault) → IfOk word Fits → IfOk (unless_misfit why word) Fits
+misfit_fits : (why : Option SourceFault) (word : Result Number SourceFault) → IfOk word Fits → IfOk (unless_fault why word) Fits
 misfit_fits (Some why) word h = tt
 misfit_fits None word h = h
 
 plain_fits : (naming : Naming) (here : ℕ) (leads : Bool) (banks : Banks) (a : Option Alias) (words : List (List ℕ)) → IfOk (plain_meaning naming here leads banks a words) Fits
 plain_fits naming here leads banks a [] = tt
 plain_fits naming here leads banks a (word ∷ words) =
-    misfit_fits (misfit a (value_of naming here words)) (word_by naming here leads banks (directive_named word) word words) (by_fits naming here leads banks (directive_named word) word words)
+    misfit_fits (operand_fault a (value_of naming here words)) (word_by naming here leads banks (directive_named word) word words) (by_fits naming here leads banks (directive_named word) word words)
 
 minus_fits : (minus : Bool) (word : Result Number SourceFault) → IfOk word Fits → IfOk (complemented_word minus word) Fits
 minus_fits minus (Ok word) h = complemented_fits minus word h
 minus_fits minus (Err why) h = tt
 
-meaning_fits : (naming : Naming) (here : ℕ) (leads : Bool) (banks : Banks) (words : List (List ℕ)) → IfOk (word_meaning naming here leads banks words) Fits
-unfolding word_meaning
+meaning_fits : (naming : Naming) (here : ℕ) (leads : Bool) (banks : Banks) (words : List (List ℕ)) → IfOk (encode_word naming here leads banks words) Fits
+unfolding encode_word
 meaning_fits naming here leads banks words =
     minus_fits (has_minus words) (plain_meaning naming here leads banks (alias_in words) (spelled words)) (plain_fits naming here leads banks (alias_in words) (spelled words))
 
-pub word_fits : (naming : Naming) (here : ℕ) (leads : Bool) (banks : Banks) (words : List (List ℕ)) (word : Number) → word_meaning naming here leads banks words ≡ Ok word → pattern_of 15 word < 2 ^ 15
+pub word_fits : (naming : Naming) (here : ℕ) (leads : Bool) (banks : Banks) (words : List (List ℕ)) (word : Number) → encode_word naming here leads banks words ≡ Ok word → pattern_of 15 word < 2 ^ 15
 word_fits naming here leads banks words word is =
     let all = meaning_fits naming here leads banks words in
     let fits : Fits word = rw is at all in
@@ -210,6 +232,10 @@ octal_pair_word None = tt
 place_pair : (banks : Banks) (place : Result ℕ SourceFault) → IfOk (pair_of_place banks place) BothFit
 place_pair banks (Ok place) = (pattern_fits (listed_address place), pattern_fits (bank_word banks place))
 place_pair banks (Err why) = tt
+
+fb_pair : (place : Result ℕ SourceFault) → IfOk (pair_for_fb place) BothFit
+fb_pair (Ok place) = (pattern_fits (0o2000 * bank_register place), pattern_fits (listed_address place))
+fb_pair (Err why) = tt
 
 pair_word_fits : (naming : Naming) (here : ℕ) (banks : Banks) (d : Directive) (words : List (List ℕ)) → IfOk (pair_by_word naming here banks d words) BothFit
 pair_word_fits naming here banks directive.SetLoc words = tt
@@ -241,6 +267,20 @@ pair_word_fits naming here banks directive.Count words = tt
 pair_word_fits naming here banks directive.CountStarred words = tt
 pair_word_fits naming here banks directive.Memory words = tt
 pair_word_fits naming here banks directive.BankSum words = tt
+pair_word_fits naming here banks directive.PairFcadr words = fb_pair (place_in (location_for naming here words))
+pair_word_fits naming here banks directive.NounVerb words = tt
+pair_word_fits naming here banks directive.BbconStarred words = tt
+pair_word_fits naming here banks directive.Dnadr1 words = tt
+pair_word_fits naming here banks directive.Dnadr2 words = tt
+pair_word_fits naming here banks directive.Dnadr3 words = tt
+pair_word_fits naming here banks directive.Dnadr4 words = tt
+pair_word_fits naming here banks directive.Dnadr5 words = tt
+pair_word_fits naming here banks directive.Dnadr6 words = tt
+pair_word_fits naming here banks directive.Dnptr words = tt
+pair_word_fits naming here banks directive.Dnchan words = tt
+pair_word_fits naming here banks directive.IsMinus words = tt
+pair_word_fits naming here banks directive.IsEcadr words = tt
+pair_word_fits naming here banks directive.Subro words = tt
 
 pair_by_fits : (naming : Naming) (here : ℕ) (banks : Banks) (d : Option Directive) (words : List (List ℕ)) → IfOk (pair_by naming here banks d words) BothFit
 pair_by_fits naming here banks (Some d) words = pair_word_fits naming here banks d words
@@ -254,11 +294,11 @@ pair_minus_fits : (minus : Bool) (pair : Result Pair SourceFault) → IfOk pair 
 pair_minus_fits minus (Ok pair) h = (complemented_fits minus pair.upper h.0, complemented_fits minus pair.lower h.1)
 pair_minus_fits minus (Err why) h = tt
 
-pair_all_fit : (naming : Naming) (here : ℕ) (banks : Banks) (words : List (List ℕ)) → IfOk (pair_meaning naming here banks words) BothFit
-unfolding pair_meaning
+pair_all_fit : (naming : Naming) (here : ℕ) (banks : Banks) (words : List (List ℕ)) → IfOk (encode_pair naming here banks words) BothFit
+unfolding encode_pair
 pair_all_fit naming here banks words = pair_minus_fits (has_minus words) (pair_spelled naming here banks (spelled words)) (pair_spelled_fits naming here banks (spelled words))
 
-pub pair_fits : (naming : Naming) (here : ℕ) (banks : Banks) (words : List (List ℕ)) (pair : Pair) → pair_meaning naming here banks words ≡ Ok pair → (pattern_of 15 pair.upper < 2 ^ 15) × (pattern_of 15 pair.lower < 2 ^ 15)
+pub pair_fits : (naming : Naming) (here : ℕ) (banks : Banks) (words : List (List ℕ)) (pair : Pair) → encode_pair naming here banks words ≡ Ok pair → (pattern_of 15 pair.upper < 2 ^ 15) × (pattern_of 15 pair.lower < 2 ^ 15)
 pair_fits naming here banks words pair is =
     let all = pair_all_fit naming here banks words in
     let both : BothFit pair = rw is at all in

@@ -13,7 +13,7 @@ use Rattle.agc_listing.specs.declared.location.Location.TheVariants as location
 use Rattle.agc_asm.specs.declared.mnemonic.Directive.{Directive}
 use Rattle.agc_asm.specs.declared.mnemonic.Directive.TheVariants as directive
 use Rattle.agc_listing.specs.declared.number.Signed.{Signed}
-use Rattle.agc_asm.specs.LineKind.{as_name, bank_in, bank_within, block_in, block_within, cells_by, cells_in, cut_range, is_dash, is_minus, moves_to, range_of, shape_by, shape_of, stands_for}
+use Rattle.agc_asm.specs.LineKind.{as_name, bank_in, bank_within, block_in, block_within, cells_by, cells_in, cut_range, is_dash, is_minus, moves_to, range_of, kind_by, kind_of, stands_apart, stands_beside, stands_for, stands_for_cell}
 use Rattle.agc_asm.specs.Name.{Naming}
 use Rattle.agc_asm.specs.Operand.{located, location_by, location_in, location_of, value_apart}
 use Rattle.agc_asm.specs.declared.fault.SourceFault.{SourceFault}
@@ -58,9 +58,23 @@ name_inside : (place : Result Location SourceFault) → IfOk (as_name place) Goe
 name_inside (Ok place) = tt
 name_inside (Err why) = tt
 
+beside_inside : (naming : Naming) (word : List ℕ) (by : Option Signed) → IfOk (stands_beside by naming word) GoesIntoRope
+beside_inside naming word (Some by) = tt
+beside_inside naming word None = name_inside (location_in naming (word ∷ []))
+
 stands_inside : (naming : Naming) (words : List (List ℕ)) → IfOk (stands_for naming words) GoesIntoRope
 stands_inside naming [] = tt
-stands_inside naming (word ∷ words) = name_inside (location_in naming (word ∷ words))
+stands_inside naming (word ∷ []) = beside_inside naming word (offset_parsed word)
+stands_inside naming (word ∷ by ∷ words) = name_inside (location_in naming (word ∷ by ∷ words))
+
+apart_inside : (place : Result Location SourceFault) → IfOk (stands_apart place) GoesIntoRope
+apart_inside (Ok place) = tt
+apart_inside (Err why) = tt
+
+cell_inside : (place : Result Location SourceFault) → IfOk (stands_for_cell place) GoesIntoRope
+cell_inside (Ok (location.Erasable cell)) = tt
+cell_inside (Ok (location.Fixed place)) = tt
+cell_inside (Err why) = tt
 
 within_by : (bank : ℕ) (inside : Bool) → nat_le bank 0o43 ≡ inside → IfOk (if inside then Ok (kind.Bank bank) else Err fault.BadPlace) GoesIntoRope
 within_by bank true is = grind (arith, nat_tests)
@@ -124,7 +138,7 @@ order_shape : (order : Bool) (why : SourceFault) → IfOk (if order then Ok kind
 order_shape true why = tt
 order_shape false why = tt
 
-shape_by_inside : (naming : Naming) (d : Option Directive) (word : List ℕ) (words : List (List ℕ)) → IfOk (shape_by naming d word words) GoesIntoRope
+shape_by_inside : (naming : Naming) (d : Option Directive) (word : List ℕ) (words : List (List ℕ)) → IfOk (kind_by naming d word words) GoesIntoRope
 shape_by_inside naming None word words = order_shape (is_order word) (unknown_operation word)
 shape_by_inside naming (Some directive.SetLoc) word words = moves_inside (location_in naming words) (value_inside (value_apart naming words))
 shape_by_inside naming (Some directive.Bank) word words = bank_words words
@@ -155,13 +169,27 @@ shape_by_inside naming (Some directive.Count) word words = tt
 shape_by_inside naming (Some directive.CountStarred) word words = tt
 shape_by_inside naming (Some directive.Memory) word words = tt
 shape_by_inside naming (Some directive.BankSum) word words = tt
+shape_by_inside naming (Some directive.PairFcadr) word words = tt
+shape_by_inside naming (Some directive.NounVerb) word words = tt
+shape_by_inside naming (Some directive.BbconStarred) word words = tt
+shape_by_inside naming (Some directive.Dnadr1) word words = tt
+shape_by_inside naming (Some directive.Dnadr2) word words = tt
+shape_by_inside naming (Some directive.Dnadr3) word words = tt
+shape_by_inside naming (Some directive.Dnadr4) word words = tt
+shape_by_inside naming (Some directive.Dnadr5) word words = tt
+shape_by_inside naming (Some directive.Dnadr6) word words = tt
+shape_by_inside naming (Some directive.Dnptr) word words = tt
+shape_by_inside naming (Some directive.Dnchan) word words = tt
+shape_by_inside naming (Some directive.IsMinus) word words = apart_inside (location_in naming words)
+shape_by_inside naming (Some directive.IsEcadr) word words = cell_inside (location_in naming words)
+shape_by_inside naming (Some directive.Subro) word words = tt
 
-shape_inside : (naming : Naming) (words : List (List ℕ)) → IfOk (shape_of naming words) GoesIntoRope
+shape_inside : (naming : Naming) (words : List (List ℕ)) → IfOk (kind_of naming words) GoesIntoRope
 shape_inside naming [] = tt
 shape_inside naming (word ∷ words) = shape_by_inside naming (directive_named word) word words
 
 -- where a line of a kind goes
-pub goes_into_rope : (naming : Naming) (words : List (List ℕ)) (s : LineKind) → shape_of naming words ≡ Ok s → GoesIntoRope s
+pub goes_into_rope : (naming : Naming) (words : List (List ℕ)) (s : LineKind) → kind_of naming words ≡ Ok s → GoesIntoRope s
 goes_into_rope naming words s is =
     let all = shape_inside naming words in
     rw is at all

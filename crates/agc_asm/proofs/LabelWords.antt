@@ -1,7 +1,7 @@
 -- The name in the first column of a line of text is one word of text.
-use Rattle.std.specs.Prelude.{◌≡◌, ℕ, Bool, true, false, not, ◌&&◌, ◌||◌, List, [], ◌∷◌, cond, filter, Some, None, if◌then◌else◌}
+use Rattle.std.specs.Prelude.{◌≡◌, ℕ, Bool, true, false, not, ◌&&◌, ◌||◌, List, [], ◌∷◌, cond, filter, Option, Some, None, is_some, if◌then◌else◌}
 use Rattle.std.specs.List.{list_all, list_any, onto_first, slice_split}
-use Rattle.std.proofs.Common.{refl, arith}
+use Rattle.std.proofs.Common.{refl, ap, arith}
 use Rattle.std.proofs.lemmas.Bool.Decides.{nat_tests}
 use Rattle.std.proofs.lemmas.List.Splits.{slice_split-cons_no, slice_split-cons_yes}
 use Rattle.agc_listing.specs.Line.{is_hash, is_no_text}
@@ -9,6 +9,8 @@ use Rattle.agc_listing.proofs.Prints.{is_solid}
 use Rattle.agc_word.specs.Text.{is_blank, is_empty_part, words_of}
 use Rattle.agc_symbols.specs.Symbols.{is_place_name}
 use Rattle.agc_listing.specs.Text.{before_comment, first_of, is_indented, is_name, label_of, parsed_by}
+use Rattle.agc_listing.specs.Number.{offset_parsed}
+use Rattle.agc_asm.specs.Body.{line_label, unless_offset}
 use Rattle.agc_asm.proofs.Cut.{IsWord, one_word}
 
 -- a byte of a word of text
@@ -82,9 +84,18 @@ label_first false (word ∷ words) label is =
     let parsed = parsed_first (is_hash word) word label (before_comment words) refl is in
     (words, rw parsed.0 refl, rw parsed.0 at parsed.1)
 
-label_is_first : (line label : List ℕ) → label_of line ≡ Some label → (rest : List (List ℕ)) × (words_of line ≡ label ∷ rest) × (is_hash label ≡ false)
-unfolding label_of parsed_by
-label_is_first line label is = label_first (is_indented line) (words_of line) label is
+no_offset_by : (offset : Bool) (word label : List ℕ) → (if offset then None else Some word) ≡ Some label → word ≡ label
+no_offset_by true word label is = absurd cc
+no_offset_by false word label is = cc
+
+no_offset : (first : Option (List ℕ)) (label : List ℕ) → unless_offset first ≡ Some label → first ≡ Some label
+no_offset None label is = absurd cc
+no_offset (Some word) label is = ap Some (no_offset_by (is_some (offset_parsed word)) word label is)
+
+label_is_first : (line label : List ℕ) → line_label line ≡ Some label → (rest : List (List ℕ)) × (words_of line ≡ label ∷ rest) × (is_hash label ≡ false)
+unfolding line_label label_of parsed_by
+label_is_first line label is =
+    label_first (is_indented line) (words_of line) label (no_offset (label_of line) label is)
 
 part_is_solid : (part : List ℕ) → is_part part ≡ true → list_all is_solid part ≡ true
 part_is_solid [] h = refl
@@ -109,7 +120,7 @@ unfolding parsed_by
 order_or_digits part h = rw (one_word part h, h.parsed) refl
 
 -- a name that a symbol file can hold
-pub label_is_word : (line label : List ℕ) → list_any is_no_text line ≡ false → label_of line ≡ Some label → is_name label ≡ true
+pub label_is_word : (line label : List ℕ) → list_any is_no_text line ≡ false → line_label line ≡ Some label → is_name label ≡ true
     → (is_place_name label ≡ true) × (parsed_by label ≡ label ∷ [])
 label_is_word line label text is name =
     let first = label_is_first line label is in

@@ -20,9 +20,9 @@ use Rattle.agc_listing.specs.declared.order.Operand.TheVariants as operand
 use Rattle.agc_listing.proofs.LineBack.{narrow_back, pattern_fits}
 use Rattle.agc_listing.proofs.Octals.{octal_back}
 use Rattle.agc_listing.proofs.Prints.{both, digits_are_solid, digits_print, is_solid, place_passes, prints}
-use Rattle.agc_asm.specs.Encode.{less_than_zero, word_meaning, writes_order}
-use Rattle.agc_asm.specs.Operand.{as_address, as_channel, located, operand_for, value_of}
-use Rattle.agc_asm.specs.LineKind.{shape_of}
+use Rattle.agc_asm.specs.Encode.{less_than_zero, encode_word, writes_order}
+use Rattle.agc_asm.specs.Operand.{as_channel, as_memory, located, operand_for, value_of}
+use Rattle.agc_asm.specs.LineKind.{kind_of}
 use Rattle.agc_asm.specs.Disassemble.{shows_order, order_or_digits}
 use Rattle.agc_listing.specs.Location.{begins_with_e, location_named}
 use Rattle.agc_listing.specs.declared.location.Location.TheVariants as location
@@ -111,19 +111,19 @@ operand_words operand.Nothing = []
 operand_words (operand.Address k) = octal_digits 4 k ∷ []
 operand_words (operand.Channel h) = octal_digits 3 h ∷ []
 
-address_back : (naming : Naming) (here k : ℕ) → k < 0o10000 → as_address here (value_of naming here (octal_digits 4 k ∷ [])) ≡ Ok (operand.Address k)
-address_back naming here k h = rw (no_distance-four k, digits_back 4 6 k (omega arith) (omega arith) (omega arith)) (grind (arith, nat_tests))
+address_back : (naming : Naming) (named : Bool) (here k : ℕ) → k < 0o10000 → as_memory named here (value_of naming here (octal_digits 4 k ∷ [])) ≡ Ok (operand.Address k)
+address_back naming named here k h = rw (no_distance-four k, digits_back 4 6 k (omega arith) (omega arith) (omega arith)) (grind (arith, nat_tests))
 
 channel_back : (naming : Naming) (here h : ℕ) → h < 0o1000 → as_channel (value_of naming here (octal_digits 3 h ∷ [])) ≡ Ok (operand.Channel h)
 channel_back naming here h small = rw (no_distance-three h, digits_back 3 6 h (omega arith) (omega arith) (omega arith)) (grind (arith, nat_tests))
 
 operand_back : (t : Takes) (bits : ℕ) (naming : Naming) (here : ℕ) → operand_for t naming here (operand_words (operand_in t bits)) ≡ Ok (operand_in t bits)
 operand_back takes.Nothing bits naming here = refl
-operand_back takes.Erasable bits naming here = address_back naming here (bits % 0o2000) (omega arith)
-operand_back takes.ErasablePair bits naming here = address_back naming here ((bits % 0o2000 + 0o1777) % 0o2000) (omega arith)
-operand_back takes.Fixed bits naming here = address_back naming here (bits % 0o10000) (omega arith)
-operand_back takes.Memory bits naming here = address_back naming here (bits % 0o10000) (omega arith)
-operand_back takes.MemoryPair bits naming here = address_back naming here ((bits % 0o10000 + 0o7777) % 0o10000) (omega arith)
+operand_back takes.Erasable bits naming here = address_back naming _ here (bits % 0o2000) (omega arith)
+operand_back takes.ErasablePair bits naming here = address_back naming _ here ((bits % 0o2000 + 0o1777) % 0o2000) (omega arith)
+operand_back takes.Fixed bits naming here = address_back naming _ here (bits % 0o10000) (omega arith)
+operand_back takes.Memory bits naming here = address_back naming _ here (bits % 0o10000) (omega arith)
+operand_back takes.MemoryPair bits naming here = address_back naming _ here ((bits % 0o10000 + 0o7777) % 0o10000) (omega arith)
 operand_back takes.Channel bits naming here = channel_back naming here (bits % 0o1000) (omega arith)
 
 -- what the line of an order means
@@ -171,8 +171,8 @@ order_writes name o m = rw (m.no_minus, order_spelled name (operand_words o) m, 
 
 -- what a line means that is read as a word
 pub record Says (wanted order : Bool) (word : Number) (parsed : List (List ℕ)) : Type 0 where
-  pub takes_up : (naming : Naming) → shape_of naming (spelled parsed) ≡ Ok kind.Word
-  pub means : (naming : Naming) (here : ℕ) (banks : Banks) → word_meaning naming here wanted banks parsed ≡ Ok word
+  pub takes_up : (naming : Naming) → kind_of naming (spelled parsed) ≡ Ok kind.Word
+  pub means : (naming : Naming) (here : ℕ) (banks : Banks) → encode_word naming here wanted banks parsed ≡ Ok word
   pub writes : writes_order parsed ≡ order
   pub plain : IsPlain parsed
 
@@ -187,7 +187,7 @@ own_meant b o bits is = meant_by b o bits (is_of_another b o) refl is
 
 basic_line : (b : Basic) (word : Number) → word.magnitude < 2 ^ 14 → basic_of (pattern_of 15 word) ≡ b
     → Says false true word (parsed_by (codes "        " ++ row_text (basic_row b) (pattern_of 15 word)))
-unfolding word_meaning
+unfolding encode_word
 basic_line b word narrow is =
     let p = pattern_of 15 word in
     let m = basic_mnemonic b in
@@ -207,7 +207,7 @@ basic_line b word narrow is =
 
 extracode_line : (e : Extracode) (word : Number) → word.magnitude < 2 ^ 14 → extracode_of (pattern_of 15 word) ≡ e
     → Says true true word (parsed_by (codes "        " ++ row_text (extracode_row e) (pattern_of 15 word)))
-unfolding word_meaning
+unfolding encode_word
 extracode_line e word narrow is =
     let p = pattern_of 15 word in
     let m = extracode_mnemonic e in
@@ -245,7 +245,7 @@ oct_plain : (p : ℕ) → IsPlain (codes "OCT" ∷ octal_digits 5 p ∷ [])
 oct_plain p = rw (uncommented_two (codes "OCT") (octal_digits 5 p) refl (no_comment-five p)) oct_no_adornment
 
 octal_line : (wanted : Bool) (word : Number) → word.magnitude < 2 ^ 14 → Says wanted false word (parsed_by (codes "        OCT " ++ octal_digits 5 (pattern_of 15 word)))
-unfolding word_meaning octal_word writes_order
+unfolding encode_word octal_word writes_order
 octal_line wanted word narrow =
     let p = pattern_of 15 word in
     let oct : IsWord (codes "OCT") = record { solid = refl; some = refl; parsed = refl } in
@@ -352,7 +352,7 @@ setloc_spelled words = refl
 in_rope : (place : ℕ) → place < 0o110000 → located (Some (location.Fixed place)) ≡ Ok (location.Fixed place)
 in_rope place h = grind (arith, nat_tests)
 
-pub place_line_moves : (place : ℕ) → place < 0o110000 → (naming : Naming) → shape_of naming (spelled (parsed_by (place_line place))) ≡ Ok (kind.Moves (location.Fixed place))
+pub place_line_moves : (place : ℕ) → place < 0o110000 → (naming : Naming) → kind_of naming (spelled (parsed_by (place_line place))) ≡ Ok (kind.Moves (location.Fixed place))
 place_line_moves place h naming =
     rw (place_line_says place, setloc_spelled (place_text (listed_place place) ∷ []), goes_to, no_number place, location_back place h, in_rope place h) refl
 

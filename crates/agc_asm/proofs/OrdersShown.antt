@@ -16,12 +16,12 @@ use Rattle.agc_asm.specs.Row.{as_word, basic_word, extracode_word, meant, meant_
 use Rattle.agc_asm.specs.declared.fault.SourceFault.{SourceFault}
 use Rattle.agc_asm.specs.declared.mnemonic.Directive.{Directive}
 use Rattle.agc_asm.specs.Body.{alias_in, has_minus, spelled}
-use Rattle.agc_asm.specs.Encode.{basic_with, complemented_word, extracode_with, if_basic, if_extracode, is_order_by, is_order_spelled, less_than_zero, misfit, order_by_offset, order_meaning, plain_meaning, unless_misfit, word_by, word_meaning, writes_order}
+use Rattle.agc_asm.specs.Encode.{basic_with, complemented_word, extracode_with, if_basic, if_extracode, is_order_by, is_order_spelled, less_than_zero, operand_fault, order_by_offset, order_meaning, plain_meaning, unless_fault, word_by, encode_word, writes_order}
 use Rattle.agc_asm.specs.declared.alias.Alias.{Alias}
 use Rattle.agc_asm.specs.declared.encode.Banks.{Banks}
 use Rattle.agc_asm.specs.Operand.{operand_for, value_of}
 use Rattle.agc_asm.specs.OrderLines.{OrderLine, mnemonic_in, operand_read, order_at, order_placed, order_with, order_words, row_named}
-use Rattle.agc_asm.specs.LineKind.{shape_by, shape_of}
+use Rattle.agc_asm.specs.LineKind.{kind_by, kind_of}
 use Rattle.agc_asm.specs.declared.line_kind.LineKind.{LineKind}
 use Rattle.agc_asm.specs.declared.line_kind.LineKind.TheVariants as kind
 use Rattle.agc_asm.proofs.OrderShown.{Shown, basic_shown, extracode_shown}
@@ -105,7 +105,7 @@ by_shown words naming since place leads banks (Some d) name rest word h order is
 by_shown words naming since place leads banks None name rest word h order is =
     less_shown words naming since place leads (less_than_zero rest) name rest word h order is
 
-unless_is : (why : Option SourceFault) (meaning : Result Number SourceFault) (word : Number) → unless_misfit why meaning ≡ Ok word → meaning ≡ Ok word
+unless_is : (why : Option SourceFault) (meaning : Result Number SourceFault) (word : Number) → unless_fault why meaning ≡ Ok word → meaning ≡ Ok word
 unless_is (Some why) meaning word is = absurd cc
 unless_is None meaning word is = is
 
@@ -114,7 +114,7 @@ plain_shown : (words : List Number) (naming : Naming) (since place : ℕ) (leads
 plain_shown words naming since place leads banks a [] word h order is = absurd cc
 plain_shown words naming since place leads banks a (name ∷ rest) word h order is =
     by_shown words naming since place leads banks (directive_named name) name rest word h order
-    (unless_is (misfit a (value_of naming place rest)) (word_by naming place leads banks (directive_named name) name rest) word is)
+    (unless_is (operand_fault a (value_of naming place rest)) (word_by naming place leads banks (directive_named name) name rest) word is)
 
 same_word : (meaning : Result Number SourceFault) (word : Number) → complemented_word false meaning ≡ Ok word → meaning ≡ Ok word
 same_word (Err why) word is = absurd cc
@@ -130,8 +130,8 @@ minus_shown words naming since place leads banks body word false true h e f is =
     plain_shown words naming since place leads banks (alias_in body) (spelled body) word h f (same_word (plain_meaning naming place leads banks (alias_in body) (spelled body)) word is)
 
 pub word_shown : (words : List Number) (naming : Naming) (since place : ℕ) (leads : Bool) (banks : Banks) (body : List (List ℕ)) (word : Number) → At words since leads place word
-    → word_meaning naming place leads banks body ≡ Ok word → AreShown words (order_at naming since leads place (order_words body)) (mnemonic_in (order_words body))
-unfolding word_meaning writes_order
+    → encode_word naming place leads banks body ≡ Ok word → AreShown words (order_at naming since leads place (order_words body)) (mnemonic_in (order_words body))
+unfolding encode_word writes_order
 word_shown words naming since place leads banks body word h is =
     minus_shown words naming since place leads banks body word (has_minus body) (is_order_spelled (spelled body)) h refl refl is
 
@@ -150,15 +150,15 @@ none_placed : (words : List Number) (naming : Naming) (since : ℕ) (leads : Boo
 none_placed words naming since leads (Err why) = none_shown words
 none_placed words naming since leads (Ok place) = none_shown words
 
-not_order_by : (naming : Naming) (s : LineKind) (d : Option Directive) (name : List ℕ) (rest : List (List ℕ)) → IsNoWord s → shape_by naming d name rest ≡ Ok s → is_order_by d rest ≡ false
+not_order_by : (naming : Naming) (s : LineKind) (d : Option Directive) (name : List ℕ) (rest : List (List ℕ)) → IsNoWord s → kind_by naming d name rest ≡ Ok s → is_order_by d rest ≡ false
 not_order_by naming s (Some d) name rest h is = refl
 not_order_by naming s None name rest h is = absurd (no_order_shape s (is_order name) (unknown_operation name) h is)
 
-not_order : (naming : Naming) (s : LineKind) (spelt : List (List ℕ)) → IsNoWord s → shape_of naming spelt ≡ Ok s → is_order_spelled spelt ≡ false
+not_order : (naming : Naming) (s : LineKind) (spelt : List (List ℕ)) → IsNoWord s → kind_of naming spelt ≡ Ok s → is_order_spelled spelt ≡ false
 not_order naming s [] h is = refl
 not_order naming s (name ∷ rest) h is = not_order_by naming s (directive_named name) name rest h is
 
-pub no_order : (words : List Number) (naming : Naming) (since : ℕ) (leads : Bool) (room : Result ℕ SourceFault) (s : LineKind) (body : List (List ℕ)) → IsNoWord s → shape_of naming (spelled body) ≡ Ok s
+pub no_order : (words : List Number) (naming : Naming) (since : ℕ) (leads : Bool) (room : Result ℕ SourceFault) (s : LineKind) (body : List (List ℕ)) → IsNoWord s → kind_of naming (spelled body) ≡ Ok s
     → AreShown words (order_placed naming since leads room (order_words body)) (mnemonic_in (order_words body))
 unfolding writes_order
 no_order words naming since leads room s body h is =

@@ -6,7 +6,7 @@ use Rattle.std.proofs.lemmas.List.Elements.{All-cons, All-head, All-nil, All-tai
 use Rattle.agc_listing.specs.Weave.{is_named}
 use Rattle.agc_listing.specs.declared.fault.LineFault.TheVariants as line_fault
 use Rattle.agc_listing.specs.declared.line.PlacedWord.{PlacedWord}
-use Rattle.agc_asm.specs.Source.{also_added, two_added, line_woven, word_added, words_from}
+use Rattle.agc_asm.specs.Source.{also_added, two_added, assemble_line, word_added, words_from}
 use Rattle.agc_asm.specs.declared.pass2.State.{State}
 use Rattle.agc_asm.specs.declared.pass2.Step.{Step}
 use Rattle.agc_asm.specs.Name.{Naming}
@@ -19,12 +19,12 @@ use Rattle.agc_asm.proofs.Passes.{next_woven}
 pub record Stepped (n : ℕ) (naming : Naming) (state : State) (parsed final : List PlacedWord) (line : List ℕ) (lines : List (List ℕ)) : Type 0 where
   pub step : Step
   pub more : List PlacedWord
-  pub woven : line_woven naming state (plain_line line) ≡ Ok step
+  pub woven : assemble_line naming state (plain_line line) ≡ Ok step
   pub both : two_added parsed step.first step.second ≡ Ok more
   pub rest : words_from (n + 1) naming step.state more lines ≡ Ok final
 
 stepped_both : (n : ℕ) (naming : Naming) (state : State) (parsed final : List PlacedWord) (line : List ℕ) (lines : List (List ℕ)) (step : Step) (both : Result (List PlacedWord) SourceFault)
-    → line_woven naming state (plain_line line) ≡ Ok step → two_added parsed step.first step.second ≡ both → words_from n naming state parsed (line ∷ lines) ≡ Ok final → Stepped n naming state parsed final line lines
+    → assemble_line naming state (plain_line line) ≡ Ok step → two_added parsed step.first step.second ≡ both → words_from n naming state parsed (line ∷ lines) ≡ Ok final → Stepped n naming state parsed final line lines
 stepped_both n naming state parsed final line lines step (Err why) e f is =
     let faulty = wrong_word n naming state parsed line step why e f lines in
     absurd cc
@@ -32,7 +32,7 @@ stepped_both n naming state parsed final line lines step (Ok more) e f is =
     record { step = step; more = more; woven = e; both = f; rest = sym (next_woven n naming state parsed more line lines step e f) ∙ is }
 
 stepped_by : (n : ℕ) (naming : Naming) (state : State) (parsed final : List PlacedWord) (line : List ℕ) (lines : List (List ℕ)) (woven : Result Step SourceFault)
-    → line_woven naming state (plain_line line) ≡ woven → words_from n naming state parsed (line ∷ lines) ≡ Ok final → Stepped n naming state parsed final line lines
+    → assemble_line naming state (plain_line line) ≡ woven → words_from n naming state parsed (line ∷ lines) ≡ Ok final → Stepped n naming state parsed final line lines
 stepped_by n naming state parsed final line lines (Err why) e is =
     let faulty = faulty_line n naming state parsed line why e lines in
     absurd cc
@@ -41,7 +41,7 @@ stepped_by n naming state parsed final line lines (Ok step) e is =
 
 pub stepped : (n : ℕ) (naming : Naming) (state : State) (parsed final : List PlacedWord) (line : List ℕ) (lines : List (List ℕ))
     → words_from n naming state parsed (line ∷ lines) ≡ Ok final → Stepped n naming state parsed final line lines
-stepped n naming state parsed final line lines is = stepped_by n naming state parsed final line lines (line_woven naming state (plain_line line)) refl is
+stepped n naming state parsed final line lines is = stepped_by n naming state parsed final line lines (assemble_line naming state (plain_line line)) refl is
 
 pub none_left : (n : ℕ) (naming : Naming) (state : State) (parsed final : List PlacedWord) → words_from n naming state parsed [] ≡ Ok final → parsed ≡ final
 unfolding words_from

@@ -14,7 +14,8 @@ use Rattle.agc_listing.specs.List.{is_extracode_at}
 use Rattle.agc_listing.specs.Order.{next_is_extracode}
 use Rattle.agc_listing.specs.declared.line.PlacedWord.{PlacedWord}
 use Rattle.agc_listing.proofs.LinesBack.{NoneFrom}
-use Rattle.agc_asm.specs.Source.{names_from, words_from}
+use Rattle.agc_interpretive.specs.Pending.{nothing_due}
+use Rattle.agc_asm.specs.Source.{due_from, names_from, words_from}
 use Rattle.agc_asm.specs.LocationCounter.{after_words, moved_to}
 use Rattle.agc_asm.specs.Disassemble.{follows_word, is_wanted_at, line_of, line_to, placed_word_lines, resolve, shows_order}
 use Rattle.agc_listing.specs.Text.{parsed_by}
@@ -23,7 +24,7 @@ use Rattle.agc_asm.specs.declared.pass2.State.{State}
 use Rattle.agc_asm.specs.Name.{Naming}
 use Rattle.agc_listing.specs.declared.location.Location.TheVariants as location
 use Rattle.agc_asm.proofs.Cut.{lines_more, no_lines}
-use Rattle.agc_asm.proofs.Lines.{IsHere, IsLine, Stands, after_word, is_line, moved_banks, moved_here, names_move, names_word, skips, state_after, state_moved, words_move, words_word}
+use Rattle.agc_asm.proofs.Lines.{IsHere, IsLine, Stands, after_word, due_move, due_word, is_line, moved_banks, moved_here, names_move, names_word, skips, state_after, state_moved, words_move, words_word}
 use Rattle.agc_asm.proofs.Orders.{place_line, place_line_moves, place_line_plain, place_line_prints, place_line_unlisted, word_line, word_line_prints, word_line_says, word_line_unlisted}
 
 -- both lines of a word are lines of the source
@@ -102,7 +103,7 @@ none_by words narrow count first n naming counter true false room stands has is 
     let here = moved_here first counter stands.banks (omega arith) in
     let says = word_line_says (is_wanted_at words first) (is_extracode_at words first) (fixed_at first words) (narrow first) in
     rw (cut_begins words first (texts words (first + 1) count) has is)
-    (names_move n naming counter first (place_line first) (line_at words first ∷ lines_of (texts words (first + 1) count)) (place_is_line first) (place_line_moves first (omega arith) naming)
+    (names_move n naming counter first (place_line first) (line_at words first ∷ lines_of (texts words (first + 1) count)) (place_is_line first) stands.due (place_line_moves first (omega arith) naming)
     ∙ names_word (n + 1) naming moved first (line_at words first) (lines_of (texts words (first + 1) count)) (word_is_line _ _ _ (narrow first)) (says.takes_up naming) here
     ∙ rest (n + 1 + 1) naming (after_words moved moved.at 1) (after_word words first moved here (moved_banks first counter stands.banks) (omega arith)))
 
@@ -219,7 +220,7 @@ words_by words narrow count first n naming state parsed true false room stands f
     let order = shows_order (is_wanted_at words first) (is_extracode_at words first) in
     let says = word_line_says (is_wanted_at words first) (is_extracode_at words first) word (narrow first) in
     rw (cut_begins words first (texts words (first + 1) count) has is, has)
-    (words_move n naming state parsed first (place_line first) (line_at words first ∷ lines_of (texts words (first + 1) count)) (place_is_line first) (place_line_moves first (omega arith) naming)
+    (words_move n naming state parsed first (place_line first) (line_at words first ∷ lines_of (texts words (first + 1) count)) (place_is_line first) stands.counter.due (place_line_moves first (omega arith) naming)
     ∙ words_word (n + 1) naming moved parsed first order word (line_at words first) (lines_of (texts words (first + 1) count)) (word_is_line _ _ _ (narrow first)) (rw leads says) here (free.none first (omega arith))
     ∙ rest (n + 1 + 1) naming (state_after moved order word (parsed_by (line_at words first))) (parsed ++ named_word words first ∷ []) (state_next words first moved here banks leads (omega arith) (parsed_by (line_at words first))) (named_more words first parsed free)
     ∙ ap (λ (all : List PlacedWord). Ok all) (append_assoc parsed (named_word words first ∷ []) (named words (first + 1) count)))
@@ -230,3 +231,41 @@ finds_words words narrow zero first room n naming state parsed stands free = rw 
 finds_words words narrow (suc count) first room n naming state parsed stands free =
     words_by words narrow count first n naming state parsed (has_line words first) (follows_word words first) room stands free refl refl
     (finds_words words narrow count (first + 1) (omega arith))
+
+-- nothing is due behind them
+abbrev DueNone : List Number → ℕ → ℕ → Type 0
+DueNone words first count = (naming : Naming) (state : State) → StandsIn words first state → due_from naming state (lines_of (texts words first count)) ≡ nothing_due
+
+due_by : (words : List Number) → ((place : ℕ) → (fixed_at place words).magnitude < 2 ^ 14) → (count first : ℕ) (naming : Naming) (state : State) (has follows : Bool)
+    → first + suc count ≤ 0o110000 → StandsIn words first state → has_line words first ≡ has → follows_word words first ≡ follows → DueNone words (first + 1) count
+    → due_from naming state (lines_of (texts words first (suc count))) ≡ nothing_due
+due_by words narrow count first naming state false follows room stands has is rest =
+    rw (no_text words first has) (rest naming state (state_skips words first state stands has))
+due_by words narrow count first naming state true true room stands has is rest =
+    let here = stands.counter.here is in
+    let leads = stands.leads is in
+    let word = fixed_at first words in
+    let order = shows_order (is_wanted_at words first) (is_extracode_at words first) in
+    let says = word_line_says (is_wanted_at words first) (is_extracode_at words first) word (narrow first) in
+    rw (cut_follows words first (texts words (first + 1) count) has is)
+    (due_word naming state first order word (line_at words first) (lines_of (texts words (first + 1) count)) (word_is_line _ _ _ (narrow first)) (rw leads says) here
+    ∙ rest naming (state_after state order word (parsed_by (line_at words first))) (state_next words first state here stands.counter.banks leads (omega arith) (parsed_by (line_at words first))))
+due_by words narrow count first naming state true false room stands has is rest =
+    let moved = state_moved state first in
+    let here = moved_here first state.counter stands.counter.banks (omega arith) in
+    let banks = moved_banks first state.counter stands.counter.banks in
+    let leads : false ≡ is_wanted_at words first = sym (wanted_none words first is) in
+    let word = fixed_at first words in
+    let order = shows_order (is_wanted_at words first) (is_extracode_at words first) in
+    let says = word_line_says (is_wanted_at words first) (is_extracode_at words first) word (narrow first) in
+    rw (cut_begins words first (texts words (first + 1) count) has is)
+    (due_move naming state first (place_line first) (line_at words first ∷ lines_of (texts words (first + 1) count)) (place_is_line first) stands.counter.due (place_line_moves first (omega arith) naming)
+    ∙ due_word naming moved first order word (line_at words first) (lines_of (texts words (first + 1) count)) (word_is_line _ _ _ (narrow first)) (rw leads says) here
+    ∙ rest naming (state_after moved order word (parsed_by (line_at words first))) (state_next words first moved here banks leads (omega arith) (parsed_by (line_at words first))))
+
+pub due_none : (words : List Number) → ((place : ℕ) → (fixed_at place words).magnitude < 2 ^ 14) → (count first : ℕ) → first + count ≤ 0o110000 → DueNone words first count
+unfolding due_from
+due_none words narrow zero first room naming state stands = rw no_lines stands.counter.due
+due_none words narrow (suc count) first room naming state stands =
+    due_by words narrow count first naming state (has_line words first) (follows_word words first) room stands refl refl
+    (due_none words narrow count (first + 1) (omega arith))

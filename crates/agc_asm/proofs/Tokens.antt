@@ -16,6 +16,10 @@ pub zero_token : tokens (codes "0") ≡ codes "0" ∷ []
 unfolding tokens uncommented parsed_by words_of
 zero_token = refl
 
+pub equals_token : tokens (codes "=") ≡ codes "=" ∷ []
+unfolding tokens uncommented parsed_by words_of
+equals_token = refl
+
 pub three_tokens : tokens (codes "0 0 0") ≡ codes "0" ∷ codes "0" ∷ codes "0" ∷ []
 unfolding tokens uncommented parsed_by words_of
 three_tokens = refl

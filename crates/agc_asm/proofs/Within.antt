@@ -4,6 +4,7 @@ use Rattle.std.proofs.Common.{refl, arith}
 use Rattle.std.proofs.lemmas.Bool.Decides.{nat_tests}
 use Rattle.agc_asm.specs.LocationCounter.{IsAt, after_cells, left_in, location_at, stretch_end}
 use Rattle.agc_asm.specs.LineKind.{after_line_words, after_room}
+use Rattle.agc_interpretive.specs.Pending.{nothing_due}
 use Rattle.agc_asm.specs.declared.location_counter.At.{At}
 use Rattle.agc_asm.specs.declared.location_counter.At.TheVariants as at
 use Rattle.agc_asm.specs.declared.location_counter.LocationCounter.{LocationCounter}
@@ -23,7 +24,7 @@ in_erasable false same counter next cell count e some ok = absurd cc
 -- when cells have room
 pub cells_within : (counter : LocationCounter) (here : At) (count : ℕ) → 0 < count → IsOk (after_cells counter here count) → IsWithin (location_at counter here)
 cells_within counter (at.Cell cell) count some ok =
-    in_erasable (nat_le (cell + count) 0o4000) (nat_le (cell + count) (stretch_end cell)) counter (record counter { at = at.Cell (cell + count) }) cell count refl some ok
+    in_erasable (nat_le (cell + count) 0o4000) (nat_le (cell + count) (stretch_end cell)) counter (record counter { at = at.Cell (cell + count); due = nothing_due }) cell count refl some ok
 cells_within counter (at.Bank bank) count some ok = absurd cc
 
 -- when words have room

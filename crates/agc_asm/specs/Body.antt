@@ -1,16 +1,21 @@
 -- What a line of a source does: its operation and operands, without its name and its comment.
-use Rattle.std.specs.Prelude.{ℕ, ◌==◌, Bool, true, false, not, ◌&&◌, List, [], ◌∷◌, take, position, find, codes}
+use Rattle.std.specs.Prelude.{ℕ, ◌==◌, Bool, true, false, not, ◌&&◌, ◌||◌, List, [], ◌∷◌, take, position, find, codes}
 use Rattle.std.specs.Prelude.{Option, Some, None, is_some, if◌then◌else◌}
 use Rattle.std.specs.List.{list_any}
 use Rattle.std.specs.Str.{bytes_eq}
 use Rattle.agc_listing.specs.Line.{is_no_text}
 use Rattle.agc_listing.specs.Number.{begins_with_minus, offset_parsed}
 use Rattle.agc_listing.specs.Text.{body_of, label_of, parsed_by}
-use Rattle.agc_asm.specs.Mnemonic.{directive_named}
+use Rattle.agc_asm.specs.Mnemonic.{directive_named, is_order}
 use Rattle.agc_asm.specs.declared.alias.Alias.{Alias}
 use Rattle.agc_asm.specs.declared.alias.Alias.TheVariants as alias
 use Rattle.agc_asm.specs.declared.mnemonic.Directive.{Directive}
 use Rattle.agc_asm.specs.declared.mnemonic.Directive.TheVariants as directive
+
+-- `$FILE` in the first column reads another file
+abbrev pub is_include : List ℕ → Bool
+is_include [] = false
+is_include (b ∷ bs) = b == 0x24
 
 -- a comment begins at `#`, also within a word
 abbrev pub is_hash_byte : ℕ → Bool
@@ -36,11 +41,11 @@ cut_at None line = line
 unfoldable pub code_of : List ℕ → List ℕ
 code_of line = cut_at (position is_hash_byte line) line
 
-unfoldable pub has_odd_comment : List ℕ → Bool
-has_odd_comment line = list_any is_no_text line && not (list_any is_no_text (code_of line))
+unfoldable pub has_non_ascii_comment : List ℕ → Bool
+has_non_ascii_comment line = list_any is_no_text line && not (list_any is_no_text (code_of line))
 
 unfoldable pub plain_line : List ℕ → List ℕ
-plain_line line = if has_odd_comment line then code_of line else line
+plain_line line = if has_non_ascii_comment line then code_of line else line
 
 -- In a line without a name, a sign and digits before the operation mean nothing: they say how far the line is from a
 -- name.
@@ -48,12 +53,14 @@ abbrev pub without_adornment : List (List ℕ) → List (List ℕ)
 without_adornment [] = []
 without_adornment (word ∷ words) = if is_some (offset_parsed word) then words else word ∷ words
 
-abbrev pub body_by : Option (List ℕ) → List (List ℕ) → List (List ℕ)
-body_by (Some label) words = words
-body_by None words = without_adornment words
+-- So they are no name in the first column either.
+abbrev pub unless_offset : Option (List ℕ) → Option (List ℕ)
+unless_offset (Some word) = if is_some (offset_parsed word) then None else Some word
+unless_offset None = None
 
-unfoldable pub body_in : List ℕ → List (List ℕ)
-body_in line = body_by (label_of line) (uncommented (body_of line))
+-- the name of a line: the word in its first column, unless it is a sign and digits
+unfoldable pub line_label : List ℕ → Option (List ℕ)
+line_label line = unless_offset (label_of line)
 
 -- Other names of orders, some with an operand of their own.
 
@@ -134,6 +141,22 @@ alias_operand alias.Double = Some (codes "0")
 alias_operand alias.Ddoubl = Some (codes "0")
 alias_operand alias.Square = Some (codes "0")
 
+-- A name alone on its line stands for the next line's location, as before `=`; but not the name of an order or a
+-- directive, before which a blank is missing.
+abbrev pub is_operation : List ℕ → Bool
+is_operation word = is_order word || is_some (alias_named word) || is_some (directive_named word)
+
+abbrev pub named_alone : List ℕ → List (List ℕ)
+named_alone label = if is_some (offset_parsed label) || is_operation label then [] else codes "=" ∷ []
+
+abbrev pub body_by : Option (List ℕ) → List (List ℕ) → List (List ℕ)
+body_by (Some label) [] = named_alone label
+body_by (Some label) (word ∷ words) = word ∷ words
+body_by None words = without_adornment words
+
+unfoldable pub body_in : List ℕ → List (List ℕ)
+body_in line = body_by (label_of line) (uncommented (body_of line))
+
 -- directives that write no word, so that there is nothing to complement
 abbrev pub writes_nothing : Option Directive → Bool
 writes_nothing (Some directive.SetLoc) = true
@@ -148,6 +171,9 @@ writes_nothing (Some directive.Count) = true
 writes_nothing (Some directive.CountStarred) = true
 writes_nothing (Some directive.Memory) = true
 writes_nothing (Some directive.BankSum) = true
+writes_nothing (Some directive.IsMinus) = true
+writes_nothing (Some directive.IsEcadr) = true
+writes_nothing (Some directive.Subro) = true
 writes_nothing d = false
 
 -- a minus before an operation that writes words is no part of its name

@@ -17,7 +17,7 @@ use Rattle.agc_asm.specs.Mnemonic.{basic_named, directive_named, extracode_named
 use Rattle.agc_asm.specs.Name.{Naming}
 use Rattle.agc_listing.specs.Number.{begins_with_minus, octal_word, offset_parsed, without_sign}
 use Rattle.agc_asm.specs.Numeral.{number_in}
-use Rattle.agc_asm.specs.Operand.{location_for, operand_for, value_of}
+use Rattle.agc_asm.specs.Operand.{channel_at, location_for, operand_for, value_of}
 use Rattle.agc_asm.specs.Row.{as_word, basic_word, extracode_word, meant, meant_operand}
 use Rattle.agc_listing.specs.Text.{only_of}
 use Rattle.agc_asm.specs.declared.alias.Alias.{Alias}
@@ -118,6 +118,28 @@ abbrev pub ecadr_word : Result ℕ SourceFault → Result Number SourceFault
 ecadr_word (Ok cell) = Ok (number_from_pattern 15 cell)
 ecadr_word (Err why) = Err why
 
+-- A downlink word: a code and the address of a cell, of a list, or a channel. The codes are from memory.
+abbrev pub downlink_word : ℕ → Result ℕ SourceFault → Result Number SourceFault
+downlink_word code (Ok address) = Ok (number_from_pattern 15 (code + address))
+downlink_word code (Err why) = Err why
+
+-- of a list: an address below 4000
+abbrev pub list_by : ℕ → Result ℕ SourceFault
+list_by address = if nat_lt address 0o4000 then Ok address else Err fault.AnotherBank
+
+abbrev pub list_address : Result Location SourceFault → Result ℕ SourceFault
+list_address (Ok place) = list_by (any_address place)
+list_address (Err why) = Err why
+
+abbrev pub channel_of : Result Value SourceFault → Result ℕ SourceFault
+channel_of (Ok v) = channel_at v
+channel_of (Err why) = Err why
+
+-- BBCON* takes no operand; the word is from memory
+abbrev pub starred_bank_word : List (List ℕ) → Result Number SourceFault
+starred_bank_word [] = Ok (number_from_pattern 15 0o66100)
+starred_bank_word words = Err fault.BadOperand
+
 -- the superbank that channel 7 holds for a place, in bits 7 to 5: 3 for banks 30 to 37, and 4 for 40 to 43
 abbrev pub superbank_by : ℕ → ℕ → ℕ
 superbank_by parsed bank =
@@ -169,6 +191,23 @@ directive_meaning naming here banks directive.Bbcon words =
     bbcon_word banks (place_in (location_for naming here words))
 directive_meaning naming here banks directive.VerbNoun words = verb_noun_in (only_of words)
 directive_meaning naming here banks directive.MajorMode words = major_mode_in (only_of words)
+directive_meaning naming here banks directive.NounVerb words = verb_noun_in (only_of words)
+directive_meaning naming here banks directive.BbconStarred words = starred_bank_word words
+directive_meaning naming here banks directive.Dnadr1 words = downlink_word 0 (cell_in (location_for naming here words))
+directive_meaning naming here banks directive.Dnadr2 words =
+    downlink_word 0o4000 (cell_in (location_for naming here words))
+directive_meaning naming here banks directive.Dnadr3 words =
+    downlink_word 0o10000 (cell_in (location_for naming here words))
+directive_meaning naming here banks directive.Dnadr4 words =
+    downlink_word 0o14000 (cell_in (location_for naming here words))
+directive_meaning naming here banks directive.Dnadr5 words =
+    downlink_word 0o20000 (cell_in (location_for naming here words))
+directive_meaning naming here banks directive.Dnadr6 words =
+    downlink_word 0o24000 (cell_in (location_for naming here words))
+directive_meaning naming here banks directive.Dnptr words =
+    downlink_word 0o30000 (list_address (location_for naming here words))
+directive_meaning naming here banks directive.Dnchan words =
+    downlink_word 0o34000 (channel_of (value_of naming here words))
 directive_meaning naming here banks d words = Err fault.UnknownOrder
 
 -- An offset that takes a number below zero is added to the order's word: `LXCH 0 -1` is one less than LXCH 0.
@@ -197,19 +236,19 @@ word_by naming here leads banks None word words =
     order_by_offset naming here leads (less_than_zero words) word words
 
 -- CAF takes no name in erasable memory, and CAE none in fixed memory.
-abbrev pub misfit : Option Alias → Result Value SourceFault → Option SourceFault
-misfit (Some alias.Caf) (Ok (value.At (location.Erasable cell))) = Some fault.FixedWanted
-misfit (Some alias.Cae) (Ok (value.At (location.Fixed place))) = Some fault.ErasableWanted
-misfit a v = None
+abbrev pub operand_fault : Option Alias → Result Value SourceFault → Option SourceFault
+operand_fault (Some alias.Caf) (Ok (value.At (location.Erasable cell))) = Some fault.FixedWanted
+operand_fault (Some alias.Cae) (Ok (value.At (location.Fixed place))) = Some fault.ErasableWanted
+operand_fault a v = None
 
-abbrev pub unless_misfit : Option SourceFault → Result Number SourceFault → Result Number SourceFault
-unless_misfit (Some why) word = Err why
-unless_misfit None word = word
+abbrev pub unless_fault : Option SourceFault → Result Number SourceFault → Result Number SourceFault
+unless_fault (Some why) word = Err why
+unless_fault None word = word
 
 abbrev pub plain_meaning : Naming → ℕ → Bool → Banks → Option Alias → List (List ℕ) → Result Number SourceFault
 plain_meaning naming here leads banks a [] = Err fault.UnknownOrder
 plain_meaning naming here leads banks a (word ∷ words) =
-    unless_misfit (misfit a (value_of naming here words))
+    unless_fault (operand_fault a (value_of naming here words))
     (word_by naming here leads banks (directive_named word) word words)
 
 abbrev pub complemented_word : Bool → Result Number SourceFault → Result Number SourceFault
@@ -217,8 +256,8 @@ complemented_word minus (Ok word) = Ok (complemented minus word)
 complemented_word minus (Err why) = Err why
 
 -- the word of a one-word line
-unfoldable pub word_meaning : Naming → ℕ → Bool → Banks → List (List ℕ) → Result Number SourceFault
-word_meaning naming here leads banks words =
+unfoldable pub encode_word : Naming → ℕ → Bool → Banks → List (List ℕ) → Result Number SourceFault
+encode_word naming here leads banks words =
     complemented_word (has_minus words)
     (plain_meaning naming here leads banks (alias_in words) (spelled words))
 
@@ -292,12 +331,22 @@ pair_of_place banks (Ok place) =
     })
 pair_of_place banks (Err why) = Err why
 
+-- the bank for FB, and an address; from memory
+abbrev pub pair_for_fb : Result ℕ SourceFault → Result Pair SourceFault
+pair_for_fb (Ok place) =
+    Ok (record {
+      upper = number_from_pattern 15 (fixed_bank_size * bank_register place);
+      lower = number_from_pattern 15 (listed_address place);
+    })
+pair_for_fb (Err why) = Err why
+
 abbrev pub pair_by_word : Naming → ℕ → Banks → Directive → List (List ℕ) → Result Pair SourceFault
 pair_by_word naming here banks directive.PairDec words = pair_of_number (number_in 28 false words)
 pair_by_word naming here banks directive.PairDecStarred words = pair_of_number (number_in 28 true words)
 pair_by_word naming here banks directive.PairOct words = octal_pair_in (only_of words)
 pair_by_word naming here banks directive.PairCadr words =
     pair_of_place banks (place_in (location_for naming here words))
+pair_by_word naming here banks directive.PairFcadr words = pair_for_fb (place_in (location_for naming here words))
 pair_by_word naming here banks d words = Err fault.BadNumber
 
 abbrev pub pair_by : Naming → ℕ → Banks → Option Directive → List (List ℕ) → Result Pair SourceFault
@@ -314,6 +363,6 @@ complemented_pair minus (Ok pair) =
 complemented_pair minus (Err why) = Err why
 
 -- the two words of a two-word line
-unfoldable pub pair_meaning : Naming → ℕ → Banks → List (List ℕ) → Result Pair SourceFault
-pair_meaning naming here banks words =
+unfoldable pub encode_pair : Naming → ℕ → Banks → List (List ℕ) → Result Pair SourceFault
+encode_pair naming here banks words =
     complemented_pair (has_minus words) (pair_spelled naming here banks (spelled words))

@@ -8,9 +8,11 @@ pub mod FaultText
 pub mod LocationCounter
 pub mod Operand
 pub mod LineKind
+pub mod Interpretive
 pub mod Encode
 pub mod Source
 pub mod NameLines
+pub mod Channels
 pub mod MnemonicCheck
 pub mod Disassemble
 pub mod Laws

@@ -18,6 +18,7 @@ use Rattle.agc_asm.specs.declared.location_counter.LocationCounter.{LocationCoun
 use Rattle.agc_asm.specs.declared.fault.SourceFault.{SourceFault}
 use Rattle.agc_asm.specs.declared.fault.SourceFault.TheVariants as fault
 use Rattle.agc_listing.specs.declared.location.Location.{Location}
+use Rattle.agc_listing.specs.declared.location.Location.TheVariants as location
 use Rattle.agc_asm.specs.declared.mnemonic.Directive.{Directive}
 use Rattle.agc_asm.specs.declared.mnemonic.Directive.TheVariants as directive
 use Rattle.agc_listing.specs.declared.number.Signed.{Signed}
@@ -25,19 +26,21 @@ use Rattle.agc_asm.specs.declared.line_kind.LineKind.{LineKind}
 use Rattle.agc_asm.specs.declared.line_kind.LineKind.TheVariants as kind
 
 -- a kind that fits the memory
-abbrev pub IsShape : LineKind → Type 0
-IsShape kind.Word = Unit {0}
-IsShape kind.Pair = Unit {0}
-IsShape (kind.Cells count) = (0 < count) × (count ≤ 100000)
-IsShape (kind.Range first end) = (first < end) × (end ≤ erasable_cells)
-IsShape (kind.Moves place) = IsWithin place
-IsShape (kind.Bank bank) = bank < 36
-IsShape kind.Resumes = Unit {0}
-IsShape (kind.StandsFor place) = IsWithin place
-IsShape kind.StandsHere = Unit {0}
-IsShape kind.Ebank = Unit {0}
-IsShape kind.Sbank = Unit {0}
-IsShape kind.Nothing = Unit {0}
+abbrev pub IsKind : LineKind → Type 0
+IsKind kind.Word = Unit {0}
+IsKind kind.Pair = Unit {0}
+IsKind (kind.Cells count) = (0 < count) × (count ≤ 100000)
+IsKind (kind.Range first end) = (first < end) × (end ≤ erasable_cells)
+IsKind (kind.Moves place) = IsWithin place
+IsKind (kind.Bank bank) = bank < 36
+IsKind kind.Resumes = Unit {0}
+IsKind (kind.StandsFor place) = IsWithin place
+IsKind kind.StandsHere = Unit {0}
+IsKind (kind.StandsBeside by) = by.magnitude < 100000
+IsKind (kind.StandsApart place) = IsWithin place
+IsKind kind.Ebank = Unit {0}
+IsKind kind.Sbank = Unit {0}
+IsKind kind.Nothing = Unit {0}
 
 abbrev pub moves_to : Result Location SourceFault → Result LineKind SourceFault
 moves_to (Ok place) = Ok (kind.Moves place)
@@ -48,9 +51,26 @@ abbrev pub as_name : Result Location SourceFault → Result LineKind SourceFault
 as_name (Ok place) = Ok (kind.StandsFor place)
 as_name (Err why) = Err why
 
+-- an offset alone is relative to this line
+abbrev pub stands_beside : Option Signed → Naming → List ℕ → Result LineKind SourceFault
+stands_beside (Some by) naming word = Ok (kind.StandsBeside by)
+stands_beside None naming word = as_name (location_in naming (word ∷ []))
+
 abbrev pub stands_for : Naming → List (List ℕ) → Result LineKind SourceFault
 stands_for naming [] = Ok kind.StandsHere
-stands_for naming (word ∷ words) = as_name (location_in naming (word ∷ words))
+stands_for naming (word ∷ []) = stands_beside (offset_parsed word) naming word
+stands_for naming (word ∷ by ∷ words) = as_name (location_in naming (word ∷ by ∷ words))
+
+-- `=MINUS`: how far this line is behind a location
+abbrev pub stands_apart : Result Location SourceFault → Result LineKind SourceFault
+stands_apart (Ok place) = Ok (kind.StandsApart place)
+stands_apart (Err why) = Err why
+
+-- `=ECADR`: a cell
+abbrev pub stands_for_cell : Result Location SourceFault → Result LineKind SourceFault
+stands_for_cell (Ok (location.Erasable cell)) = Ok (kind.StandsFor (location.Erasable cell))
+stands_for_cell (Ok (location.Fixed place)) = Err fault.ErasableWanted
+stands_for_cell (Err why) = Err why
 
 -- a bank of the rope, in one or two octal digits; BANK without a number continues in the current one
 abbrev pub bank_within : Option ℕ → Result LineKind SourceFault
@@ -104,33 +124,37 @@ cells_in (first ∷ dash ∷ last ∷ []) =
 cells_in words = Err fault.BadNumber
 
 -- the kind of a directive, with the words after it
-abbrev pub directive_shape : Naming → Directive → List (List ℕ) → Result LineKind SourceFault
-directive_shape naming directive.SetLoc words = moves_to (location_in naming words)
-directive_shape naming directive.Bank words = bank_in words
-directive_shape naming directive.Block words = block_in (only_of words)
-directive_shape naming directive.Is words = stands_for naming words
-directive_shape naming directive.Equals words = stands_for naming words
-directive_shape naming directive.Erase words = cells_in words
-directive_shape naming directive.PairOct words = Ok kind.Pair
-directive_shape naming directive.PairDec words = Ok kind.Pair
-directive_shape naming directive.PairDecStarred words = Ok kind.Pair
-directive_shape naming directive.PairCadr words = Ok kind.Pair
-directive_shape naming directive.Ebank words = Ok kind.Ebank
-directive_shape naming directive.Sbank words = Ok kind.Sbank
-directive_shape naming directive.Count words = Ok kind.Nothing
-directive_shape naming directive.CountStarred words = Ok kind.Nothing
-directive_shape naming directive.Memory words = Ok kind.Nothing
-directive_shape naming directive.BankSum words = Ok kind.Nothing
-directive_shape naming d words = Ok kind.Word
+abbrev pub directive_kind : Naming → Directive → List (List ℕ) → Result LineKind SourceFault
+directive_kind naming directive.SetLoc words = moves_to (location_in naming words)
+directive_kind naming directive.Bank words = bank_in words
+directive_kind naming directive.Block words = block_in (only_of words)
+directive_kind naming directive.Is words = stands_for naming words
+directive_kind naming directive.Equals words = stands_for naming words
+directive_kind naming directive.Erase words = cells_in words
+directive_kind naming directive.PairOct words = Ok kind.Pair
+directive_kind naming directive.PairDec words = Ok kind.Pair
+directive_kind naming directive.PairDecStarred words = Ok kind.Pair
+directive_kind naming directive.PairCadr words = Ok kind.Pair
+directive_kind naming directive.Ebank words = Ok kind.Ebank
+directive_kind naming directive.Sbank words = Ok kind.Sbank
+directive_kind naming directive.Count words = Ok kind.Nothing
+directive_kind naming directive.CountStarred words = Ok kind.Nothing
+directive_kind naming directive.Memory words = Ok kind.Nothing
+directive_kind naming directive.BankSum words = Ok kind.Nothing
+directive_kind naming directive.Subro words = Ok kind.Nothing
+directive_kind naming directive.PairFcadr words = Ok kind.Pair
+directive_kind naming directive.IsMinus words = stands_apart (location_in naming words)
+directive_kind naming directive.IsEcadr words = stands_for_cell (location_in naming words)
+directive_kind naming d words = Ok kind.Word
 
-abbrev pub shape_by : Naming → Option Directive → List ℕ → List (List ℕ) → Result LineKind SourceFault
-shape_by naming (Some d) word words = directive_shape naming d words
-shape_by naming None word words = if is_order word then Ok kind.Word else Err (unknown_operation word)
+abbrev pub kind_by : Naming → Option Directive → List ℕ → List (List ℕ) → Result LineKind SourceFault
+kind_by naming (Some d) word words = directive_kind naming d words
+kind_by naming None word words = if is_order word then Ok kind.Word else Err (unknown_operation word)
 
 -- the kind of a line, by its operation and operand
-abbrev pub shape_of : Naming → List (List ℕ) → Result LineKind SourceFault
-shape_of naming [] = Err fault.UnknownOrder
-shape_of naming (word ∷ words) = shape_by naming (directive_named word) word words
+abbrev pub kind_of : Naming → List (List ℕ) → Result LineKind SourceFault
+kind_of naming [] = Err fault.UnknownOrder
+kind_of naming (word ∷ words) = kind_by naming (directive_named word) word words
 
 -- after `count` words, if there is room for them
 abbrev pub after_room : LocationCounter → ℕ → Result ℕ SourceFault → Result LocationCounter SourceFault
@@ -143,12 +167,12 @@ after_line_words counter (at.Bank bank) count = after_room counter count (room_a
 after_line_words counter (at.Cell cell) count = after_cells counter (at.Cell cell) count
 
 -- the location counter after a line of a kind
-abbrev pub cursor_after : LocationCounter → LineKind → Result LocationCounter SourceFault
-cursor_after counter kind.Word = after_line_words counter counter.at 1
-cursor_after counter kind.Pair = after_line_words counter counter.at 2
-cursor_after counter (kind.Cells count) = after_cells counter counter.at count
-cursor_after counter (kind.Moves place) = Ok (moved_to counter place)
-cursor_after counter (kind.Bank bank) = Ok (in_bank counter bank)
-cursor_after counter kind.Resumes = resumed counter counter.at
-cursor_after counter (kind.Range first end) = after_range counter counter.at end
-cursor_after counter s = Ok counter
+abbrev pub counter_after : LocationCounter → LineKind → Result LocationCounter SourceFault
+counter_after counter kind.Word = after_line_words counter counter.at 1
+counter_after counter kind.Pair = after_line_words counter counter.at 2
+counter_after counter (kind.Cells count) = after_cells counter counter.at count
+counter_after counter (kind.Moves place) = Ok (moved_to counter place)
+counter_after counter (kind.Bank bank) = Ok (in_bank counter bank)
+counter_after counter kind.Resumes = resumed counter counter.at
+counter_after counter (kind.Range first end) = after_range counter counter.at end
+counter_after counter s = Ok counter

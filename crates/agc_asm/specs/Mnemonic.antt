@@ -45,6 +45,20 @@ directive_name directive.Count = codes "COUNT"
 directive_name directive.CountStarred = codes "COUNT*"
 directive_name directive.Memory = codes "MEMORY"
 directive_name directive.BankSum = codes "BNKSUM"
+directive_name directive.PairFcadr = codes "2FCADR"
+directive_name directive.NounVerb = codes "NV"
+directive_name directive.BbconStarred = codes "BBCON*"
+directive_name directive.Dnadr1 = codes "1DNADR"
+directive_name directive.Dnadr2 = codes "2DNADR"
+directive_name directive.Dnadr3 = codes "3DNADR"
+directive_name directive.Dnadr4 = codes "4DNADR"
+directive_name directive.Dnadr5 = codes "5DNADR"
+directive_name directive.Dnadr6 = codes "6DNADR"
+directive_name directive.Dnptr = codes "DNPTR"
+directive_name directive.Dnchan = codes "DNCHAN"
+directive_name directive.IsMinus = codes "=MINUS"
+directive_name directive.IsEcadr = codes "=ECADR"
+directive_name directive.Subro = codes "SUBRO"
 
 unfoldable pub all_directives : List Directive
 all_directives =
@@ -54,7 +68,7 @@ all_directives =
     directive.Cadr ∷ directive.Fcadr ∷ directive.Ecadr ∷ directive.Bbcon ∷ directive.PairCadr ∷
     directive.VerbNoun ∷ directive.MajorMode ∷ directive.Is ∷ directive.Equals ∷ directive.Erase ∷
     directive.Ebank ∷ directive.Sbank ∷ directive.Count ∷ directive.CountStarred ∷
-    directive.Memory ∷ directive.BankSum ∷ []
+    directive.Memory ∷ directive.BankSum ∷ directive.PairFcadr ∷ directive.NounVerb ∷ directive.BbconStarred ∷ directive.Dnadr1 ∷ directive.Dnadr2 ∷ directive.Dnadr3 ∷ directive.Dnadr4 ∷ directive.Dnadr5 ∷ directive.Dnadr6 ∷ directive.Dnptr ∷ directive.Dnchan ∷ directive.IsMinus ∷ directive.IsEcadr ∷ directive.Subro ∷ []
 
 unfoldable pub directive_named : List ℕ → Option Directive
 directive_named name = find (λ d. bytes_eq (directive_name d) name) all_directives

@@ -1,5 +1,5 @@
 -- Operands: an address, a place or a cell, and an offset from it.
-use Rattle.std.specs.Prelude.{ℕ, ◌+◌, ◌-◌, nat_lt, nat_le, Bool, ◌&&◌, List, [], ◌∷◌, length, take, drop, find}
+use Rattle.std.specs.Prelude.{ℕ, ◌+◌, ◌-◌, nat_lt, nat_le, ◌==◌, Bool, ◌&&◌, ◌||◌, false, List, [], ◌∷◌, length, take, drop, find}
 use Rattle.std.specs.List.{range_with_len}
 use Rattle.std.specs.Prelude.{Option, Some, None, is_some, Result, Ok, Err, if◌then◌else◌}
 use Rattle.agc_word.specs.Numeral.{octal_number}
@@ -9,7 +9,7 @@ use Rattle.agc_store.specs.Places.{erasable_cells, fixed_words}
 use Rattle.agc_listing.specs.List.{listed_address}
 use Rattle.agc_listing.specs.declared.order.Operand.{Operand}
 use Rattle.agc_listing.specs.declared.order.Operand.TheVariants as operand
-use Rattle.agc_listing.specs.Location.{cell_address, is_addressable, location_named, location_numbered}
+use Rattle.agc_listing.specs.Location.{cell_address, is_addressable, is_fixed_fixed, location_named, location_numbered}
 use Rattle.agc_asm.specs.Name.{Naming, known}
 use Rattle.agc_listing.specs.Number.{count_named, offset_parsed}
 use Rattle.agc_listing.specs.Text.{is_name}
@@ -134,6 +134,21 @@ value_apart naming words = Err fault.BadPlace
 abbrev pub location_in : Naming → List (List ℕ) → Result Location SourceFault
 location_in naming words = location_by (value_apart naming words)
 
+-- a location beside another one
+abbrev pub location_beside : Location → Signed → Result Location SourceFault
+location_beside here by = location_by (value_moved (value.At here) by)
+
+-- The number of a location, as listings count all memory, and the location of such a number's distance from another one.
+abbrev pub number_of_location : Location → ℕ
+number_of_location (location.Erasable cell) = cell
+number_of_location (location.Fixed place) = if is_fixed_fixed place then place else place + 0o10000
+
+abbrev pub location_apart : Location → Location → Result Location SourceFault
+location_apart here from =
+    if nat_le (number_of_location from) (number_of_location here)
+    then located (location_numbered (number_of_location here - number_of_location from))
+    else Err fault.NoSuchPlace
+
 -- the same for an address that a line at a place writes: an offset alone is relative to the line itself
 abbrev pub location_for : Naming → ℕ → List (List ℕ) → Result Location SourceFault
 location_for naming here words = location_by (value_of naming here words)
@@ -152,11 +167,16 @@ abbrev pub address_at : ℕ → Value → Result ℕ SourceFault
 address_at here (value.Number n) = if nat_lt n 0o10000 then Ok n else address_by here (location_numbered n)
 address_at here (value.At place) = address_of here place
 
+-- The cells whose names may also be names of channels: the registers and counters below 61, and 77. Each other cell is
+-- memory, and its name is no channel's.
+abbrev pub is_channel_cell : ℕ → Bool
+is_channel_cell cell = nat_lt cell 0o61 || (cell == 0o77)
+
 -- the channel that a value names
 abbrev pub channel_at : Value → Result ℕ SourceFault
 channel_at (value.Number n) = if nat_lt n 0o1000 then Ok n else Err fault.ChannelWanted
 channel_at (value.At (location.Erasable cell)) =
-    if nat_lt cell 0o1000 then Ok cell else Err fault.ChannelWanted
+    if is_channel_cell cell then Ok cell else Err fault.ChannelWanted
 channel_at (value.At (location.Fixed place)) = Err fault.ChannelWanted
 
 abbrev pub as_address : ℕ → Result Value SourceFault → Result Operand SourceFault
@@ -166,6 +186,18 @@ as_address here (Ok v) =
       | Ok address ↦ Ok (operand.Address address)
       | Err why ↦ Err why
     ]
+
+-- A name that an order of the source takes as a channel's is no name of a cell.
+abbrev pub is_channel_name : Naming → List (List ℕ) → Bool
+is_channel_name naming [] = false
+is_channel_name naming (word ∷ words) = is_some (naming.channels word)
+
+abbrev pub as_memory : Bool → ℕ → Result Value SourceFault → Result Operand SourceFault
+as_memory named here (Ok (value.At (location.Erasable cell))) =
+    if named && is_channel_cell cell
+    then Err fault.ChannelName
+    else as_address here (Ok (value.At (location.Erasable cell)))
+as_memory named here v = as_address here v
 
 abbrev pub as_channel : Result Value SourceFault → Result Operand SourceFault
 as_channel (Err why) = Err why
@@ -183,4 +215,4 @@ no_operand (word ∷ words) = Err fault.BadOperand
 abbrev pub operand_for : Takes → Naming → ℕ → List (List ℕ) → Result Operand SourceFault
 operand_for takes.Nothing naming here words = no_operand words
 operand_for takes.Channel naming here words = as_channel (value_of naming here words)
-operand_for wanted naming here words = as_address here (value_of naming here words)
+operand_for wanted naming here words = as_memory (is_channel_name naming words) here (value_of naming here words)

@@ -1,6 +1,7 @@
 -- The orders that the lines of a source write, and how the assembled rope and its listing show them.
 use Rattle.agc_order.specs.declared.order.Basic.{Basic}
 use Rattle.agc_asm.specs.Row.{meant, meant_operand}
+use Rattle.agc_interpretive.specs.declared.pending.Pending.{Pending}
 use Rattle.std.specs.Prelude.{◌≡◌, ℕ, ◌^◌, ◌<◌, Bool, true, false, ◌||◌, List, [], ◌∷◌, ◌++◌, codes}
 use Rattle.std.specs.Prelude.{Option, Some, None, option_map, Result, Ok, Err, if◌then◌else◌}
 use Rattle.agc_word.specs.Number.{Number, pattern_of}
@@ -20,6 +21,9 @@ use Rattle.agc_asm.specs.Name.{Naming}
 use Rattle.agc_listing.specs.Text.{are_listed, parsed_by}
 use Rattle.agc_asm.specs.Body.{body_in, plain_line, spelled}
 use Rattle.agc_asm.specs.Encode.{writes_order}
+use Rattle.agc_asm.specs.Interpretive.{role_of}
+use Rattle.agc_asm.specs.declared.role.Role.{Role}
+use Rattle.agc_asm.specs.declared.role.Role.TheVariants as role
 use Rattle.agc_asm.specs.declared.fault.SourceFault.{SourceFault}
 use Rattle.agc_asm.specs.declared.fault.SourceFault.TheVariants as fault
 use Rattle.agc_asm.specs.declared.fault.AssemblyFault.{AssemblyFault}
@@ -27,8 +31,8 @@ use Rattle.agc_listing.specs.declared.location.Location.{Location}
 use Rattle.agc_listing.specs.declared.location.Location.TheVariants as location
 use Rattle.agc_asm.specs.LocationCounter.{location_at, room_at}
 use Rattle.agc_asm.specs.Operand.{operand_for}
-use Rattle.agc_asm.specs.LineKind.{shape_of}
-use Rattle.agc_asm.specs.Source.{first_state, line_woven, names_in, stays_put}
+use Rattle.agc_asm.specs.LineKind.{kind_of}
+use Rattle.agc_asm.specs.Source.{first_state, assemble_line, names_in, stays_put}
 use Rattle.agc_asm.specs.declared.location_counter.At.{At}
 use Rattle.agc_asm.specs.declared.location_counter.At.TheVariants as at
 use Rattle.agc_asm.specs.declared.location_counter.LocationCounter.{LocationCounter}
@@ -96,10 +100,18 @@ abbrev pub order_placed : Naming → ℕ → Bool → Result ℕ SourceFault →
 order_placed naming since extracode (Err why) words = []
 order_placed naming since extracode (Ok place) words = order_at naming since extracode place words
 
+-- lines of the interpretive language write no orders, and those of a listing neither
+abbrev pub is_interpretive : Role → Bool
+is_interpretive role.Basic = false
+is_interpretive r = true
+
+unfoldable pub is_other : Pending → List ℕ → Bool
+is_other due line = is_interpretive (role_of due line) || are_listed (parsed_by line)
+
 -- the order that a line writes, if it writes one
 unfoldable pub order_of : Naming → ℕ → State → List ℕ → List OrderLine
 order_of naming since state line =
-    if are_listed (parsed_by line)
+    if is_other state.counter.due line
     then []
     else order_placed naming since state.leads (room_at state.counter state.counter.at 1) (order_words (body_in line))
 
@@ -117,23 +129,27 @@ abbrev pub shape_stays : Bool → Result LineKind SourceFault → Bool
 shape_stays order (Ok s) = kind_stays order s
 shape_stays order (Err why) = true
 
--- whether a line neither moves to another place nor writes data
-abbrev pub stays : Naming → List ℕ → Bool
-stays naming line =
+-- whether a line neither moves to another place nor writes data, as an interpretive one does
+abbrev pub basic_stays : Naming → List ℕ → Role → Bool
+basic_stays naming line role.Basic =
     are_listed (parsed_by line)
-    || shape_stays (writes_order (body_in line)) (shape_of naming (spelled (body_in line)))
+    || shape_stays (writes_order (body_in line)) (kind_of naming (spelled (body_in line)))
+basic_stays naming line r = false
 
-abbrev pub since_after : Naming → ℕ → List ℕ → LocationCounter → ℕ
-since_after naming since line counter =
-    if stays naming line then since else place_of (location_at counter counter.at)
+abbrev pub stays : Naming → Pending → List ℕ → Bool
+stays naming due line = basic_stays naming line (role_of due line)
+
+abbrev pub since_after : Naming → Pending → ℕ → List ℕ → LocationCounter → ℕ
+since_after naming due since line counter =
+    if stays naming due line then since else place_of (location_at counter counter.at)
 
 -- the orders that lines write
 unfoldable pub orders_from : Naming → ℕ → State → List (List ℕ) → List OrderLine
 orders_from naming since state [] = []
 orders_from naming since state (line ∷ lines) =
-    elim (line_woven naming state (plain_line line)) [
+    elim (assemble_line naming state (plain_line line)) [
       | Ok step ↦ order_of naming since state (plain_line line)
-          ++ orders_from naming (since_after naming since (plain_line line) step.state.counter) step.state lines
+          ++ orders_from naming (since_after naming state.counter.due since (plain_line line) step.state.counter) step.state lines
       | Err why ↦ []
     ]
 
@@ -145,24 +161,24 @@ orders_by (Err why) lines = []
 unfoldable pub orders_in : List ℕ → List OrderLine
 orders_in text = orders_by (names_in (lines_of text)) (lines_of text)
 
--- the mnemonic of a line that writes an order and is not a listing line
+-- the mnemonic of a line that writes an order
 abbrev pub mnemonic_in : List (List ℕ) → List (List ℕ)
 mnemonic_in [] = []
 mnemonic_in (word ∷ words) = word ∷ []
 
-unfoldable pub mnemonic_of : List ℕ → List (List ℕ)
-mnemonic_of line = if are_listed (parsed_by line) then [] else mnemonic_in (order_words (body_in line))
+unfoldable pub mnemonic_of : Pending → List ℕ → List (List ℕ)
+mnemonic_of due line = if is_other due line then [] else mnemonic_in (order_words (body_in line))
 
 -- the mnemonics of lines in fixed memory; orders in erasable memory are not in the rope
-abbrev pub mnemonic_at : At → List ℕ → List (List ℕ)
-mnemonic_at (at.Bank bank) line = mnemonic_of line
-mnemonic_at (at.Cell cell) line = []
+abbrev pub mnemonic_at : Pending → At → List ℕ → List (List ℕ)
+mnemonic_at due (at.Bank bank) line = mnemonic_of due line
+mnemonic_at due (at.Cell cell) line = []
 
 unfoldable pub mnemonics_from : Naming → State → List (List ℕ) → List (List ℕ)
 mnemonics_from naming state [] = []
 mnemonics_from naming state (line ∷ lines) =
-    elim (line_woven naming state (plain_line line)) [
-      | Ok step ↦ mnemonic_at state.counter.at (plain_line line) ++ mnemonics_from naming step.state lines
+    elim (assemble_line naming state (plain_line line)) [
+      | Ok step ↦ mnemonic_at state.counter.due state.counter.at (plain_line line) ++ mnemonics_from naming step.state lines
       | Err why ↦ []
     ]
 

@@ -1,8 +1,11 @@
 -- How a source is assembled: first its names, then its words.
-use Rattle.std.specs.Prelude.{◌≡◌, ◌<◌, ◌==◌, ℕ, zero, suc, ◌+◌, ◌/◌, nat_lt, Bool, true, false, not, ◌&&◌, ◌∷◌, List, []}
+use Rattle.std.specs.Prelude.{◌≡◌, ◌<◌, ◌==◌, ℕ, zero, suc, ◌+◌, ◌/◌, nat_lt, Bool, true, false, not, ◌&&◌, ◌∷◌, List, [], length}
 use Rattle.std.specs.Prelude.{Option, Some, None, Result, Ok, Err, is_some, if◌then◌else◌, IfSome}
 use Rattle.std.specs.List.{list_all, list_any}
-use Rattle.agc_word.specs.Number.{Number}
+use Rattle.agc_interpretive.specs.Pending.{fault_at_end}
+use Rattle.agc_interpretive.specs.declared.fault.Fault.{Fault}
+use Rattle.agc_interpretive.specs.declared.pending.Pending.{Pending}
+use Rattle.agc_word.specs.Number.{Number, number_from_pattern}
 use Rattle.agc_store.specs.Places.{fixed_words}
 use Rattle.agc_store.specs.declared.rope_file.RopeForm.{RopeForm}
 use Rattle.agc_word.specs.Text.{lines_of}
@@ -15,13 +18,15 @@ use Rattle.agc_listing.specs.declared.fault.WeaveFault.{WeaveFault}
 use Rattle.agc_listing.specs.declared.fault.WeaveFault.TheVariants as weave
 use Rattle.agc_listing.specs.declared.line.PlacedWord.{PlacedWord}
 use Rattle.agc_store.specs.Places.{erasable_bank_size, erasable_cells, fixed_fixed}
-use Rattle.agc_asm.specs.Body.{body_in, has_odd_comment, plain_line, spelled}
-use Rattle.agc_asm.specs.LocationCounter.{IsAt, after_cells, after_words, first_cursor, location_at, room_at}
-use Rattle.agc_asm.specs.Encode.{banks_after, cell_in, is_banked, pair_meaning, place_in, superbank, word_meaning, writes_order}
+use Rattle.agc_asm.specs.Body.{line_label, body_in, has_non_ascii_comment, is_include, plain_line, spelled}
+use Rattle.agc_asm.specs.Interpretive.{due_behind, role_of, spoken_meaning, spoken_words}
+use Rattle.agc_asm.specs.LocationCounter.{IsAt, after_cells, after_words, due_there, first_counter, location_at, room_at}
+use Rattle.agc_asm.specs.Encode.{banks_after, cell_in, is_banked, encode_pair, place_in, superbank, encode_word, writes_order}
+use Rattle.agc_asm.specs.Channels.{channels_from}
 use Rattle.agc_asm.specs.Name.{Naming, guessing, no_name, with_name}
-use Rattle.agc_asm.specs.Operand.{location_in}
-use Rattle.agc_asm.specs.LineKind.{cursor_after, shape_of}
-use Rattle.agc_listing.specs.Text.{after_first, are_listed, is_name, label_of, parsed_by}
+use Rattle.agc_asm.specs.Operand.{location_apart, location_beside, location_in}
+use Rattle.agc_asm.specs.LineKind.{counter_after, kind_of}
+use Rattle.agc_listing.specs.Text.{after_first, are_listed, is_name, parsed_by}
 use Rattle.agc_asm.specs.declared.location_counter.At.{At}
 use Rattle.agc_asm.specs.declared.location_counter.At.TheVariants as at
 use Rattle.agc_asm.specs.declared.location_counter.LocationCounter.{LocationCounter}
@@ -36,6 +41,8 @@ use Rattle.agc_asm.specs.declared.encode.Banks.{Banks}
 use Rattle.agc_asm.specs.declared.encode.Pair.{Pair}
 use Rattle.agc_asm.specs.declared.line_kind.LineKind.{LineKind}
 use Rattle.agc_asm.specs.declared.line_kind.LineKind.TheVariants as kind
+use Rattle.agc_asm.specs.declared.role.Role.{Role}
+use Rattle.agc_asm.specs.declared.role.Role.TheVariants as role
 use Rattle.agc_asm.specs.declared.pass2.State.{State}
 use Rattle.agc_asm.specs.declared.pass2.Step.{Step}
 
@@ -51,7 +58,12 @@ here_place counter (at.Bank bank) = here_fixed (room_at counter (at.Bank bank) 1
 here_place counter (at.Cell cell) =
     if nat_lt cell erasable_cells then Ok (Some (location.Erasable cell)) else Err fault.Full
 
--- the location of a line's name: its first word or cell, or the location that the line states
+abbrev pub some_place : Result Location SourceFault → Result (Option Location) SourceFault
+some_place (Ok place) = Ok (Some place)
+some_place (Err why) = Err why
+
+-- The location of a line's name: its first word or cell, or the location that the line states; with SETLOC, EBANK= and
+-- SBANK= that of the next line.
 abbrev pub label_place : LocationCounter → LineKind → Result (Option Location) SourceFault
 label_place counter kind.Word = Ok (Some (location_at counter counter.at))
 label_place counter kind.Pair = Ok (Some (location_at counter counter.at))
@@ -59,6 +71,11 @@ label_place counter (kind.Cells count) = Ok (Some (location_at counter counter.a
 label_place counter (kind.Range first end) = Ok (Some (location.Erasable first))
 label_place counter (kind.StandsFor place) = Ok (Some place)
 label_place counter kind.StandsHere = here_place counter counter.at
+label_place counter (kind.StandsBeside by) = some_place (location_beside (location_at counter counter.at) by)
+label_place counter (kind.StandsApart from) = some_place (location_apart (location_at counter counter.at) from)
+label_place counter (kind.Moves place) = Ok (Some place)
+label_place counter kind.Ebank = here_place counter counter.at
+label_place counter kind.Sbank = here_place counter counter.at
 label_place counter kind.Nothing = Ok None
 label_place counter s = Err fault.MisplacedName
 
@@ -66,6 +83,8 @@ label_place counter s = Err fault.MisplacedName
 abbrev pub no_label : LineKind → Result (Option Location) SourceFault
 no_label (kind.StandsFor place) = Err fault.MisplacedName
 no_label kind.StandsHere = Err fault.MisplacedName
+no_label (kind.StandsBeside by) = Err fault.MisplacedName
+no_label (kind.StandsApart from) = Err fault.MisplacedName
 no_label s = Ok None
 
 abbrev pub place_labelled : Naming → LocationCounter → LineKind → Option (List ℕ) → Result (Option Location) SourceFault
@@ -83,28 +102,44 @@ labelled (Ok next) (Ok place) = Ok (record { counter = next; place = place })
 abbrev pub shape_labelled : Naming → LocationCounter → Option (List ℕ) → Result LineKind SourceFault → Result Labelled SourceFault
 shape_labelled naming counter label (Err why) = Err why
 shape_labelled naming counter label (Ok s) =
-    labelled (cursor_after counter s) (place_labelled naming counter s label)
+    labelled (counter_after counter s) (place_labelled naming counter s label)
 
 -- a listing line has no name
 abbrev pub listed_labelled : LocationCounter → Result (Option PlacedWord) LineFault → Result Labelled SourceFault
 listed_labelled counter (Ok parsed) = Ok (record { counter = counter; place = None })
 listed_labelled counter (Err why) = Err (fault.Listed why)
 
--- `$FILE` in the first column reads another file
-abbrev pub is_include : List ℕ → Bool
-is_include [] = false
-is_include (b ∷ bs) = b == 0x24
+-- an interpretive line has one word, and may have a name
+abbrev pub with_due : Pending → Result Labelled SourceFault → Result Labelled SourceFault
+with_due due (Ok next) = Ok (record { counter = due_there due next.counter; place = next.place })
+with_due due (Err why) = Err why
 
--- the location of a line's name, if it has one, and where the next line goes
-unfoldable pub line_labelled : Naming → LocationCounter → List ℕ → Result Labelled SourceFault
-line_labelled naming counter line =
+abbrev pub spoken_labelled : Naming → LocationCounter → List ℕ → Pending → Result Labelled SourceFault
+spoken_labelled naming counter line due =
+    if list_any is_no_text line
+    then Err (fault.Listed line_fault.NotText)
+    else with_due due (shape_labelled naming counter (line_label line) (Ok kind.Word))
+
+abbrev pub basic_labelled : Naming → LocationCounter → List ℕ → Result Labelled SourceFault
+basic_labelled naming counter line =
     if are_listed (parsed_by line)
     then listed_labelled counter (line_named line)
     else (if list_any is_no_text line
     then Err (fault.Listed line_fault.NotText)
     else (if is_include line
     then Err fault.Include
-    else shape_labelled naming counter (label_of line) (shape_of naming (spelled (body_in line)))))
+    else shape_labelled naming counter (line_label line) (kind_of naming (spelled (body_in line)))))
+
+abbrev pub labelled_as : Naming → LocationCounter → List ℕ → Role → Result Labelled SourceFault
+labelled_as naming counter line role.Basic = basic_labelled naming counter line
+labelled_as naming counter line role.Operand =
+    spoken_labelled naming counter line (due_behind counter.due role.Operand (spoken_words line))
+labelled_as naming counter line (role.Operation o) =
+    spoken_labelled naming counter line (due_behind counter.due (role.Operation o) (spoken_words line))
+
+-- the location of a line's name, if it has one, and where the next line goes
+unfoldable pub define_label : Naming → LocationCounter → List ℕ → Result Labelled SourceFault
+define_label naming counter line = labelled_as naming counter line (role_of counter.due line)
 
 abbrev pub naming_after : Naming → Option (List ℕ) → Option Location → Naming
 naming_after naming (Some label) (Some place) = with_name naming label place
@@ -114,8 +149,8 @@ naming_after naming _ _ = naming
 unfoldable pub names_from : ℕ → Naming → LocationCounter → List (List ℕ) → Result Naming AssemblyFault
 names_from n naming counter [] = Ok naming
 names_from n naming counter (line ∷ lines) =
-    elim (line_labelled naming counter (plain_line line)) [
-      | Ok next ↦ names_from (n + 1) (naming_after naming (label_of (plain_line line)) next.place) next.counter lines
+    elim (define_label naming counter (plain_line line)) [
+      | Ok next ↦ names_from (n + 1) (naming_after naming (line_label (plain_line line)) next.place) next.counter lines
       | Err why ↦ Err (trouble.Line n why)
     ]
 
@@ -124,24 +159,24 @@ names_from n naming counter (line ∷ lines) =
 unfoldable pub found_from : Naming → LocationCounter → List (List ℕ) → List ℕ → Option Location
 found_from naming counter [] = naming.given
 found_from naming counter (line ∷ lines) =
-    elim (line_labelled naming counter (plain_line line)) [
-      | Ok next ↦ found_from (naming_after naming (label_of (plain_line line)) next.place) next.counter lines
+    elim (define_label naming counter (plain_line line)) [
+      | Ok next ↦ found_from (naming_after naming (line_label (plain_line line)) next.place) next.counter lines
       | Err why ↦ found_from naming counter lines
     ]
 
 abbrev pub found_again : List (List ℕ) → (List ℕ → Option Location) → List ℕ → Option Location
-found_again lines guess = found_from (guessing guess) first_cursor lines
+found_again lines guess = found_from (guessing guess) first_counter lines
 
 unfoldable pub found_after : ℕ → List (List ℕ) → List ℕ → Option Location
 found_after zero lines = no_name
 found_after (suc times) lines = found_again lines (found_after times lines)
 
--- the names before the first line: those that ten earlier readings found, one after the other
+-- the names before the first line: those that ten earlier readings found, one after the other, and the channels
 unfoldable pub first_names : List (List ℕ) → Naming
-first_names lines = guessing (found_after 10 lines)
+first_names lines = channels_from 1 (guessing (found_after 10 lines)) lines
 
 unfoldable pub names_in : List (List ℕ) → Result Naming AssemblyFault
-names_in lines = names_from 1 (first_names lines) first_cursor lines
+names_in lines = names_from 1 (first_names lines) first_counter lines
 
 -- The second pass: the words.
 
@@ -149,7 +184,7 @@ abbrev pub first_banks : Banks
 first_banks = record { erasable = 0; before = None; superbank = 0 }
 
 abbrev pub first_state : State
-first_state = record { counter = first_cursor; leads = false; banks = first_banks }
+first_state = record { counter = first_counter; leads = false; banks = first_banks }
 
 abbrev pub word_at : ℕ → Number → Option PlacedWord
 word_at place word = Some (record { place = place; word = word })
@@ -202,12 +237,12 @@ no_word state s (Ok next) =
 abbrev pub word_placed : Naming → State → List (List ℕ) → Result ℕ SourceFault → Result Step SourceFault
 word_placed naming state body (Err why) = Err why
 word_placed naming state body (Ok place) =
-    one_word state place body (word_meaning naming place state.leads state.banks body)
+    one_word state place body (encode_word naming place state.leads state.banks body)
 
 abbrev pub pair_placed : Naming → State → List (List ℕ) → Result ℕ SourceFault → Result Step SourceFault
 pair_placed naming state body (Err why) = Err why
 pair_placed naming state body (Ok place) =
-    two_words state place body (pair_meaning naming place state.banks body)
+    two_words state place body (encode_pair naming place state.banks body)
 
 -- Words in erasable memory take cells. They are not in the rope, but their faults count: they are read as in bank 02,
 -- which may name places in any bank.
@@ -232,13 +267,13 @@ abbrev pub word_at_counter : Naming → State → List (List ℕ) → At → Res
 word_at_counter naming state body (at.Bank bank) = word_placed naming state body (room_at state.counter (at.Bank bank) 1)
 word_at_counter naming state body (at.Cell cell) =
     word_in_cell state body (after_cells state.counter (at.Cell cell) 1)
-    (word_meaning naming fixed_fixed state.leads state.banks body)
+    (encode_word naming fixed_fixed state.leads state.banks body)
 
 abbrev pub pair_at_counter : Naming → State → List (List ℕ) → At → Result Step SourceFault
 pair_at_counter naming state body (at.Bank bank) = pair_placed naming state body (room_at state.counter (at.Bank bank) 2)
 pair_at_counter naming state body (at.Cell cell) =
     pair_in_cells state body (after_cells state.counter (at.Cell cell) 2)
-    (pair_meaning naming fixed_fixed state.banks body)
+    (encode_pair naming fixed_fixed state.banks body)
 
 -- EBANK= names the bank of a cell, and SBANK= the superbank of a place
 abbrev pub with_banks : State → Banks → Step
@@ -272,19 +307,88 @@ shape_woven naming state body (Ok kind.Ebank) =
     ebank_parsed state (cell_in (location_in naming (after_first (spelled body))))
 shape_woven naming state body (Ok kind.Sbank) =
     sbank_parsed state (place_in (location_in naming (after_first (spelled body))))
-shape_woven naming state body (Ok s) = no_word state s (cursor_after state.counter s)
+shape_woven naming state body (Ok s) = no_word state s (counter_after state.counter s)
 
 -- a listing line changes nothing but its place
 abbrev pub listed_woven : State → Result (Option PlacedWord) LineFault → Result Step SourceFault
 listed_woven state (Ok parsed) = Ok (record { state = state; first = parsed; second = None })
 listed_woven state (Err why) = Err (fault.Listed why)
 
--- the words of a line, with their places, and where the next line goes
-unfoldable pub line_woven : Naming → State → List ℕ → Result Step SourceFault
-line_woven naming state line =
+-- No operand may be missing before a line that writes words or moves to another place. One that does neither leaves what
+-- is due.
+abbrev pub leaves_due : LineKind → Bool
+leaves_due (kind.StandsFor place) = true
+leaves_due kind.StandsHere = true
+leaves_due (kind.StandsBeside by) = true
+leaves_due (kind.StandsApart place) = true
+leaves_due kind.Ebank = true
+leaves_due kind.Sbank = true
+leaves_due kind.Nothing = true
+leaves_due s = false
+
+abbrev pub fault_before : Pending → Result LineKind SourceFault → Option Fault
+fault_before due (Ok s) = if leaves_due s then None else fault_at_end due false
+fault_before due (Err why) = None
+
+abbrev pub unless_missing : Option Fault → Result Step SourceFault → Result Step SourceFault
+unless_missing (Some why) step = Err (fault.Interpretive why)
+unless_missing None step = step
+
+abbrev pub basic_woven : Naming → State → List (List ℕ) → Result LineKind SourceFault → Result Step SourceFault
+basic_woven naming state body s =
+    unless_missing (fault_before state.counter.due s) (shape_woven naming state body s)
+
+-- an interpretive line: its word is data
+abbrev pub spoken_state : State → Pending → LocationCounter → State
+spoken_state state due counter = record {
+  counter = due_there due counter;
+  leads = false;
+  banks = banks_after false state.banks;
+}
+
+abbrev pub spoken_placed : State → Pending → ℕ → Result ℕ SourceFault → Result Step SourceFault
+spoken_placed state due place (Err why) = Err why
+spoken_placed state due place (Ok word) =
+    Ok (record {
+      state = spoken_state state due (after_words state.counter state.counter.at 1);
+      first = word_at place (number_from_pattern 15 word);
+      second = None;
+    })
+
+abbrev pub spoken_in_rope : Naming → State → Role → List (List ℕ) → Result ℕ SourceFault → Result Step SourceFault
+spoken_in_rope naming state r words (Err why) = Err why
+spoken_in_rope naming state r words (Ok place) =
+    spoken_placed state (due_behind state.counter.due r words) place
+    (spoken_meaning naming place state.counter.due r words)
+
+abbrev pub spoken_next : State → Pending → Result LocationCounter SourceFault → Result Step SourceFault
+spoken_next state due (Err why) = Err why
+spoken_next state due (Ok counter) =
+    Ok (record { state = spoken_state state due counter; first = None; second = None })
+
+abbrev pub spoken_in_cell : State → Pending → Result LocationCounter SourceFault → Result ℕ SourceFault → Result Step SourceFault
+spoken_in_cell state due next (Err why) = Err why
+spoken_in_cell state due next (Ok word) = spoken_next state due next
+
+abbrev pub spoken_at : Naming → State → Role → List (List ℕ) → At → Result Step SourceFault
+spoken_at naming state r words (at.Bank bank) =
+    spoken_in_rope naming state r words (room_at state.counter (at.Bank bank) 1)
+spoken_at naming state r words (at.Cell cell) =
+    spoken_in_cell state (due_behind state.counter.due r words) (after_cells state.counter (at.Cell cell) 1)
+    (spoken_meaning naming fixed_fixed state.counter.due r words)
+
+abbrev pub woven_as : Naming → State → List ℕ → Role → Result Step SourceFault
+woven_as naming state line role.Basic =
     if are_listed (parsed_by line)
     then listed_woven state (line_named line)
-    else shape_woven naming state (body_in line) (shape_of naming (spelled (body_in line)))
+    else basic_woven naming state (body_in line) (kind_of naming (spelled (body_in line)))
+woven_as naming state line role.Operand = spoken_at naming state role.Operand (spoken_words line) state.counter.at
+woven_as naming state line (role.Operation o) =
+    spoken_at naming state (role.Operation o) (spoken_words line) state.counter.at
+
+-- the words of a line, with their places, and where the next line goes
+unfoldable pub assemble_line : Naming → State → List ℕ → Result Step SourceFault
+assemble_line naming state line = woven_as naming state line (role_of state.counter.due line)
 
 -- no place is named twice
 abbrev pub parsed_added : List PlacedWord → Result (Option PlacedWord) LineFault → Result (List PlacedWord) SourceFault
@@ -310,7 +414,7 @@ reported_at n (Err why) = Err (trouble.Line n why)
 unfoldable pub words_from : ℕ → Naming → State → List PlacedWord → List (List ℕ) → Result (List PlacedWord) AssemblyFault
 words_from n naming state parsed [] = Ok parsed
 words_from n naming state parsed (line ∷ lines) =
-    elim (line_woven naming state (plain_line line)) [
+    elim (assemble_line naming state (plain_line line)) [
       | Ok step ↦ elim (two_added parsed step.first step.second) [
         | Ok more ↦ words_from (n + 1) naming step.state more lines
         | Err why ↦ Err (trouble.Line n why)
@@ -318,8 +422,27 @@ words_from n naming state parsed (line ∷ lines) =
       | Err why ↦ Err (trouble.Line n why)
     ]
 
+-- the operands that are due behind the last line
+unfoldable pub due_from : Naming → State → List (List ℕ) → Pending
+due_from naming state [] = state.counter.due
+due_from naming state (line ∷ lines) =
+    elim (assemble_line naming state (plain_line line)) [
+      | Ok step ↦ due_from naming step.state lines
+      | Err why ↦ state.counter.due
+    ]
+
+-- no operand may be missing there: that is a fault of the last line
+abbrev pub ended : ℕ → Option Fault → List PlacedWord → Result (List PlacedWord) AssemblyFault
+ended n (Some why) parsed = Err (trouble.Line n (fault.Interpretive why))
+ended n None parsed = Ok parsed
+
+abbrev pub closed : ℕ → Pending → Result (List PlacedWord) AssemblyFault → Result (List PlacedWord) AssemblyFault
+closed n due (Ok parsed) = ended n (fault_at_end due false) parsed
+closed n due (Err why) = Err why
+
 unfoldable pub words_in : Naming → List (List ℕ) → Result (List PlacedWord) AssemblyFault
-words_in naming lines = words_from 1 naming first_state [] lines
+words_in naming lines =
+    closed (length lines) (due_from naming first_state lines) (words_from 1 naming first_state [] lines)
 
 -- The faults of the first pass come before those of the second.
 abbrev pub words_after_names : List (List ℕ) → Result Naming AssemblyFault → Result (List PlacedWord) AssemblyFault
@@ -328,7 +451,7 @@ words_after_names lines (Err why) = Err why
 
 -- a text with only places and words, and with comments that are text, is a listing
 abbrev pub is_listing_line : List ℕ → Bool
-is_listing_line line = are_listed (parsed_by line) && not (has_odd_comment line)
+is_listing_line line = are_listed (parsed_by line) && not (has_non_ascii_comment line)
 
 unfoldable pub is_listing : List ℕ → Bool
 is_listing text = list_all (λ line. is_listing_line line) (lines_of text)

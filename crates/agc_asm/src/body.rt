@@ -1,13 +1,17 @@
 //! Splits a line of a source: its name, its operation, and the words of its operand.
-ghost use Rattle.std.specs.Prelude.{◌≡◌, ◌<◌, ◌∷◌, [], length, position, option_map, MatchOption, IfSome, codes, true, false};
+ghost use Rattle.std.specs.Prelude.{◌≡◌, ◌<◌, ◌∷◌, [], length, position, option_map, MatchOption, IfSome, Some, codes, true, false};
 ghost use Rattle.agc_listing.specs.Text.{body_of, label_of, only_of, parsed_by};
 ghost use Rattle.agc_asm.specs.Body.{
   alias_named,
   alias_operand,
+  body_by,
   body_in,
   code_of,
-  has_odd_comment,
+  has_non_ascii_comment,
+  is_include,
+  is_operation,
   is_hash_byte,
+  line_label,
   operand_spelled,
   plain_line,
   tokens,
@@ -20,8 +24,15 @@ ghost use Rattle.agc_asm.specs.Mnemonic.{directive_named};
 ghost use Rattle.agc_listing.specs.Line.{is_no_text};
 
 use crate::alias::Alias;
-use crate::mnemonic::Directive;
+use crate::mnemonic::{Directive, is_order};
 use agc_listing::{cut_label, has_other_byte, next_parsed, offset_parsed};
+
+/// Returns whether a line names another file to read.
+pub(crate) fn is_include(line: &[u8]) -> bool
+    ensures { result ≡ is_include line.now }
+{
+    matches!(line, [b'$', ..])
+}
 
 /// Returns the first word of a text before its comment, and what follows it; `None` if there is no word.
 #[tactic(auto, unfolding(crate::specs::Body::tokens, crate::specs::Body::uncommented))]
@@ -42,7 +53,7 @@ pub(crate) fn next_token(text: &[u8]) -> Option<(&[u8], &[u8])>
 pub(crate) fn plain_line(line: &[u8]) -> &[u8]
     ensures { result.now ≡ plain_line line.now }
 {
-    if has_odd_comment(line) {
+    if has_non_ascii_comment(line) {
         code_of(line)
     } else {
         line
@@ -50,9 +61,9 @@ pub(crate) fn plain_line(line: &[u8]) -> &[u8]
 }
 
 /// Returns whether a line has bytes that are not text, all of them in its comment.
-#[tactic(auto, unfolding(crate::specs::Body::has_odd_comment))]
-pub(crate) fn has_odd_comment(line: &[u8]) -> bool
-    ensures { result ≡ has_odd_comment line.now }
+#[tactic(auto, unfolding(crate::specs::Body::has_non_ascii_comment))]
+pub(crate) fn has_non_ascii_comment(line: &[u8]) -> bool
+    ensures { result ≡ has_non_ascii_comment line.now }
 {
     has_other_byte(line) && !has_other_byte(code_of(line))
 }
@@ -86,17 +97,38 @@ pub(crate) fn only_token(text: &[u8]) -> Option<&[u8]>
     }
 }
 
-/// Returns the name of a line, if it has one, and its operation with the operand.
-#[tactic(auto, unfolding(crate::specs::Body::body_in, crate::specs::Body::tokens))]
+/// Returns the name of a line, if it has one, and its operation with the operand. A sign and digits before the operation
+/// are no name. A name alone is read as before `=`, unless it is an order's or a directive's.
+#[tactic(auto, unfolding(crate::specs::Body::body_in, crate::specs::Body::line_label, crate::specs::Body::tokens))]
 pub(crate) fn cut_line(line: &[u8]) -> (Option<&[u8]>, &[u8])
-    ensures label { option_map (λ label. label.now) result.0 ≡ label_of line.now }
+    ensures label { option_map (λ label. label.now) result.0 ≡ line_label line.now }
     ensures body { tokens result.1.now ≡ body_in line.now }
 {
     let (label, body) = cut_label(line);
     match label {
-        Some(_) => (label, body),
+        Some(first) if offset_parsed(first).is_some() => (None, named_body(first, body)),
+        Some(first) => (label, named_body(first, body)),
         None => (None, without_adornment(body)),
     }
+}
+
+/// Returns the operation of a line with a word in its first column: `=` if that is a name alone.
+#[tactic(auto, using(crate::proofs::Tokens::equals_token))]
+fn named_body<'a>(label: &[u8], body: &'a [u8]) -> &'a [u8]
+    ensures { tokens result.now ≡ body_by (Some label.now) (tokens body.now) }
+{
+    match next_token(body) {
+        Some(_) => body,
+        None if offset_parsed(label).is_some() || is_operation(label) => body,
+        None => b"=",
+    }
+}
+
+/// Returns whether a word is an order or a directive.
+pub fn is_operation(word: &[u8]) -> bool
+    ensures { result ≡ is_operation word.now }
+{
+    is_order(word) || Alias::from_name(word).is_some() || Directive::from_name(word).is_some()
 }
 
 /// Returns the operation of a line without a name: what follows a sign and digits.
@@ -137,6 +169,9 @@ fn writes_nothing(directive: Option<Directive>) -> bool
                 | Directive::CountStarred
                 | Directive::Memory
                 | Directive::BankSum
+                | Directive::IsMinus
+                | Directive::IsEcadr
+                | Directive::Subro
         )
     )
 }

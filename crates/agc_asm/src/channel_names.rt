@@ -1,8 +1,7 @@
 //! Writes the symbol file of a source, in which the names of channels are marked.
-use crate::mnemonic::extracode_named;
+use crate::channels::takes_channel;
 use crate::symbol_file::name_lines;
 use agc_listing::{Location, cut_label, is_listed, location_named, next_parsed};
-use agc_order::Takes;
 use agc_symbols::push_channel_line;
 use agc_word::without_return;
 use std::alloc::{AllocError, Global};
@@ -87,12 +86,4 @@ fn uses_in(alloc: Global, source: &[u8]) -> Result<BTreeMap<&[u8], Uses>, AllocE
         }
     }
     Ok(uses)
-}
-
-/// Returns whether an order reads or writes a channel.
-fn takes_channel(order: &[u8]) -> bool {
-    match extracode_named(order) {
-        Some(order) => order.row().takes == Takes::Channel,
-        None => false,
-    }
 }

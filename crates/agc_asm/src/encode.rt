@@ -1,5 +1,5 @@
 //! Encodes a line into its words.
-ghost use Rattle.std.specs.Prelude.{◌≡◌, ◌∷◌, [], codes, ◌+◌, ◌-◌, ◌<◌, ◌%◌, ◌^◌, IfOk, IfSome};
+ghost use Rattle.std.specs.Prelude.{◌≡◌, ◌∷◌, [], codes, ◌+◌, ◌-◌, ◌<◌, ◌≤◌, ◌%◌, ◌^◌, IfOk, IfSome};
 ghost use Rattle.agc_word.specs.Number.{number_from_pattern, pattern_of};
 ghost use Rattle.agc_store.specs.Places.{erasable_cells, fixed_words};
 ghost use Rattle.agc_asm.specs.Body.{tokens};
@@ -12,24 +12,26 @@ ghost use Rattle.agc_asm.specs.Encode.{
   cell_in,
   complemented,
   directive_meaning,
+  downlink_word,
   extracode_meaning,
   is_banked,
   less_than_zero,
-  misfit,
+  operand_fault,
   octal_in,
   octal_pair_in,
   order_by_offset,
   order_meaning,
   number_word,
   pair_by_word,
-  pair_meaning,
+  encode_pair,
   pair_of_number,
   place_in,
+  starred_bank_word,
   superbank,
   verb_noun_in,
   major_mode_in,
   word_by,
-  word_meaning,
+  encode_word,
   writes_order,
 };
 ghost use Rattle.agc_asm.specs.Name.{naming_of};
@@ -44,7 +46,7 @@ use crate::fault::SourceFault;
 use crate::mnemonic::{Directive, basic_named, extracode_named};
 use crate::names::Names;
 use crate::numeral::{number_in, without_sign};
-use crate::operand::{Value, location_for, operand_for, value_of};
+use crate::operand::{Value, channel_at, location_for, operand_for, value_of};
 use crate::operation::Operation;
 use crate::row::{basic_word, extracode_word, meant, meant_operand};
 use agc_listing::{
@@ -79,17 +81,17 @@ pub(crate) struct Site {
 }
 
 /// Encodes a one-word line.
-#[tactic(auto, unfolding(crate::specs::Encode::word_meaning))]
-pub(crate) fn word_meaning(
+#[tactic(auto, unfolding(crate::specs::Encode::encode_word))]
+pub(crate) fn encode_word(
     names: &Names,
     site: Site,
     operation: &Operation,
 ) -> Result<Narrow, SourceFault>
     requires erasable { site.banks.erasable < 8 }
     requires superbank { site.banks.superbank < 8 }
-    ensures { result ≡ word_meaning (naming_of names.now) site.here site.leads site.banks (tokens operation.now.body.now) }
+    ensures { result ≡ encode_word (naming_of names.now) site.here site.leads site.banks (tokens operation.now.body.now) }
 {
-    if let Some(fault) = misfit(operation.alias, names, site.here, operation.rest) {
+    if let Some(fault) = operand_fault(operation.alias, names, site.here, operation.rest) {
         return Err(fault);
     }
     let word = word_by(names, site, operation)?;
@@ -97,8 +99,8 @@ pub(crate) fn word_meaning(
 }
 
 /// Returns why CAF or CAE does not take an operand.
-fn misfit(alias: Option<Alias>, names: &Names, here: u32, rest: &[u8]) -> Option<SourceFault>
-    ensures { result ≡ misfit alias (value_of (naming_of names.now) here (tokens rest.now)) }
+fn operand_fault(alias: Option<Alias>, names: &Names, here: u32, rest: &[u8]) -> Option<SourceFault>
+    ensures { result ≡ operand_fault alias (value_of (naming_of names.now) here (tokens rest.now)) }
 {
     match alias {
         Some(Alias::Caf) => match value_of(names, here, rest) {
@@ -256,9 +258,47 @@ fn directive_meaning(
             let place = place_in(location_for(names, site.here, rest))?;
             Ok(Narrow::with_bits(bank_word(site.banks, place)))
         }
-        Directive::VerbNoun => verb_noun_in(rest),
+        Directive::VerbNoun | Directive::NounVerb => verb_noun_in(rest),
         Directive::MajorMode => major_mode_in(rest),
+        Directive::BbconStarred => starred_bank_word(rest),
+        Directive::Dnadr1 => downlink_cell(names, site, 0, rest),
+        Directive::Dnadr2 => downlink_cell(names, site, 0o4000, rest),
+        Directive::Dnadr3 => downlink_cell(names, site, 0o10000, rest),
+        Directive::Dnadr4 => downlink_cell(names, site, 0o14000, rest),
+        Directive::Dnadr5 => downlink_cell(names, site, 0o20000, rest),
+        Directive::Dnadr6 => downlink_cell(names, site, 0o24000, rest),
+        Directive::Dnptr => {
+            let address = any_address(location_for(names, site.here, rest)?);
+            if address < 0o4000 {
+                Ok(Narrow::with_bits(0o30000 + address))
+            } else {
+                Err(SourceFault::AnotherBank)
+            }
+        }
+        Directive::Dnchan => {
+            let channel = channel_at(value_of(names, site.here, rest)?)?;
+            Ok(Narrow::with_bits(0o34000 + channel))
+        }
         _ => Err(SourceFault::UnknownOrder),
+    }
+}
+
+/// Encodes a downlink word for a cell.
+fn downlink_cell(names: &Names, site: Site, code: u16, rest: &[u8]) -> Result<Narrow, SourceFault>
+    requires { code ≤ 0o24000 }
+    ensures { result ≡ downlink_word code (cell_in (location_for (naming_of names.now) site.here (tokens rest.now))) }
+{
+    let cell = cell_in(location_for(names, site.here, rest))?;
+    Ok(Narrow::with_bits(code + cell as u16))
+}
+
+/// Encodes BBCON*, which has no operand.
+fn starred_bank_word(rest: &[u8]) -> Result<Narrow, SourceFault>
+    ensures { result ≡ starred_bank_word (tokens rest.now) }
+{
+    match next_token(rest) {
+        Some(_) => Err(SourceFault::BadOperand),
+        None => Ok(Narrow::with_bits(0o66100)),
     }
 }
 
@@ -410,15 +450,15 @@ pub(crate) fn banks_after(banked: bool, banks: Banks) -> Banks
 }
 
 /// Encodes a two-word line.
-#[tactic(auto, unfolding(crate::specs::Encode::pair_meaning))]
-pub(crate) fn pair_meaning(
+#[tactic(auto, unfolding(crate::specs::Encode::encode_pair))]
+pub(crate) fn encode_pair(
     names: &Names,
     site: Site,
     operation: &Operation,
 ) -> Result<Pair, SourceFault>
     requires erasable { site.banks.erasable < 8 }
     requires superbank { site.banks.superbank < 8 }
-    ensures { result ≡ pair_meaning (naming_of names.now) site.here site.banks (tokens operation.now.body.now) }
+    ensures { result ≡ encode_pair (naming_of names.now) site.here site.banks (tokens operation.now.body.now) }
 {
     let Some(directive) = operation.directive else {
         return Err(SourceFault::BadNumber);
@@ -449,6 +489,13 @@ fn pair_by_word(
             Ok(Pair {
                 upper: Narrow::with_bits(listed_address(place as usize)),
                 lower: Narrow::with_bits(bank_word(site.banks, place)),
+            })
+        }
+        Directive::PairFcadr => {
+            let place = place_in(location_for(names, site.here, rest))?;
+            Ok(Pair {
+                upper: Narrow::with_bits(agc_listing::bank_word(place)),
+                lower: Narrow::with_bits(listed_address(place as usize)),
             })
         }
         _ => Err(SourceFault::BadNumber),

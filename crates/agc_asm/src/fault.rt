@@ -1,7 +1,9 @@
 //! The faults of a source.
 ghost use Rattle.std.specs.Prelude.{◌≡◌};
-ghost use Rattle.agc_asm.specs.FaultText.{fault_text, listed_name};
+ghost use Rattle.agc_interpretive.specs.FaultText.{fault_text as interpretive_text};
+ghost use Rattle.agc_asm.specs.FaultText.{fault_text, listed_text};
 
+use agc_interpretive::Fault;
 use agc_listing::LineFault;
 use std::alloc::AllocError;
 use std::error::Error;
@@ -16,14 +18,14 @@ pub enum SourceFault {
     BadName,
     /// The name is one of the computer's own, or an earlier line has it.
     NameTwice,
-    /// SETLOC, BANK, EBANK= or SBANK= with a name, or `=` or EQUALS without one.
+    /// BANK or BLOCK with a name, or `=`, EQUALS, =MINUS or =ECADR without one.
     MisplacedName,
     /// The line has no known order or directive after its first column.
     UnknownOrder,
     /// `$FILE`: other files are not included.
     Include,
-    /// An operation of the interpreter's language, which is not read.
-    Interpretive,
+    /// A fault of the interpretive language.
+    Interpretive(Fault),
     /// A directive of the listings that is not supported.
     NotSupported,
     /// The operand is missing, superfluous or malformed.
@@ -36,8 +38,10 @@ pub enum SourceFault {
     ErasableWanted,
     /// A place in fixed memory is expected: by a jump, or by a directive that names a bank.
     FixedWanted,
-    /// Not a channel of nine bits.
+    /// Not a channel of nine bits, or a name of a memory cell.
     ChannelWanted,
+    /// A memory cell's name that another line takes as a channel.
+    ChannelName,
     /// The place is in a fixed bank that this line cannot address.
     AnotherBank,
     /// TC of 3, 4 or 6, and INDEX of 17: their words are other orders. In a source they are these orders.
@@ -59,28 +63,31 @@ pub enum SourceFault {
 }
 
 impl SourceFault {
-    /// Returns the message of the fault: its name if a line of a listing can have it too, otherwise a sentence.
+    /// Returns the message of the fault: a sentence.
     pub fn text(self) -> &'static str
         ensures { result.now ≡ fault_text self }
     {
         match self {
-            SourceFault::Listed(fault) => listed_name(fault),
+            SourceFault::Listed(fault) => listed_text(fault),
             SourceFault::BadName =>
                 "a name is 1 to 8 characters, without a comma and not only digits and signs",
             SourceFault::NameTwice => "an earlier line has this name",
             SourceFault::MisplacedName =>
-                "= and EQUALS need a name in the first column; SETLOC, BANK, EBANK= and SBANK= take none",
+                "=, EQUALS, =MINUS and =ECADR need a name in the first column; BANK and BLOCK take none",
             SourceFault::UnknownOrder =>
                 "no order or directive has this name (they come after the first column)",
             SourceFault::Include => "other files are not included: put their lines into this file",
-            SourceFault::Interpretive => "the interpreter's language is not read",
+            SourceFault::Interpretive(fault) => fault.text(),
             SourceFault::NotSupported => "this directive is not supported",
             SourceFault::BadOperand => "the operand is missing, superfluous or malformed",
             SourceFault::UnknownName => "no line has this name",
             SourceFault::NoSuchPlace => "there is no such place in memory",
             SourceFault::ErasableWanted => "an address in erasable memory is expected here",
             SourceFault::FixedWanted => "a place in fixed memory is expected here",
-            SourceFault::ChannelWanted => "this order takes a channel, 0 to 777",
+            SourceFault::ChannelWanted =>
+                "this order takes a channel: a number from 0 to 777, or a name of 0 to 60 or 77",
+            SourceFault::ChannelName =>
+                "another line takes this name as a channel: give the cell a name of its own",
             SourceFault::AnotherBank => "this place is in another bank",
             SourceFault::OtherOrder => "with this address the word would be another order",
             SourceFault::ExtracodeAlone => "this order is an extracode: write EXTEND before it",
@@ -109,14 +116,15 @@ impl fmt::Display for SourceFault {
     }
 }
 
-fn listed_name(fault: LineFault) -> &'static str
-    ensures { result.now ≡ listed_name fault }
+fn listed_text(fault: LineFault) -> &'static str
+    ensures { result.now ≡ listed_text fault }
 {
     match fault {
-        LineFault::NotText => "NotText",
-        LineFault::BadAddress => "BadAddress",
-        LineFault::BadWord => "BadWord",
-        LineFault::NamedTwice => "NamedTwice",
+        LineFault::NotText => "a byte of this line is neither a tab nor printable ASCII",
+        LineFault::BadAddress =>
+            "the line begins with no place of a rope: 4000 to 7777, or a bank from 00 to 43 and an address, as 04,2000",
+        LineFault::BadWord => "after a place comes its word: five octal digits",
+        LineFault::NamedTwice => "an earlier line has a word for this place: write each place once",
     }
 }
 
@@ -125,8 +133,31 @@ fn listed_name(fault: LineFault) -> &'static str
 pub enum AssemblyFault {
     /// The line with this number, counted from 1, has this fault.
     Line(usize, SourceFault),
+    /// The first of these lines has a word for a place for which the second, an earlier one, has a word too.
+    Overlap(usize, usize),
     /// Out of memory for the rope.
     Memory,
+}
+
+/// Says that an earlier line has a word for the place of a line.
+#[derive(Clone, Copy, Debug, PartialEq, Eq)]
+pub struct EarlierLine {
+    pub line: usize,
+}
+
+impl fmt::Display for EarlierLine {
+    ghost use Rattle.std.specs.Prelude.{Some};
+    ghost use Rattle.agc_asm.specs.FaultText.{overlap_text};
+
+    ghost output = { λ earlier. Some (overlap_text earlier.line) };
+
+    fn fmt<W: fmt::Write>(&self, f: &mut fmt::Formatter<W>) -> fmt::Result {
+        write!(
+            f,
+            "line {} has a word for this place: write each place once",
+            self.line
+        )
+    }
 }
 
 impl From<AllocError> for AssemblyFault {
@@ -149,6 +180,9 @@ impl fmt::Display for AssemblyFault {
     fn fmt<W: fmt::Write>(&self, f: &mut fmt::Formatter<W>) -> fmt::Result {
         match *self {
             AssemblyFault::Line(line, fault) => write!(f, "line {line}: {fault}"),
+            AssemblyFault::Overlap(line, earlier) => {
+                write!(f, "line {line}: {}", EarlierLine { line: earlier })
+            }
             AssemblyFault::Memory => f.write_str("memory"),
         }
     }

@@ -2,10 +2,11 @@
 ghost use Rattle.std.specs.Prelude.{◌≡◌, ◌+◌, ◌≤◌, length, take, drop, IfSome};
 ghost use Rattle.agc_asm.specs.FaultPlace.{IsWordOf};
 
-use crate::alias::Alias;
+use crate::body::{is_operation, without_minus};
 use crate::fault::SourceFault;
-use crate::mnemonic::{Directive, is_order};
+use crate::mnemonic::Directive;
 use crate::numeral::{is_numeral, is_scale};
+use agc_interpretive::{Fault, Operation};
 use agc_listing::{LineFault, has_other_byte, is_listed, offset_parsed};
 
 /// A word of a line, and the byte column at which it begins, counted from 1.
@@ -20,6 +21,10 @@ pub struct Spot<'a> {
 pub fn word_at_fault(line: &[u8], fault: SourceFault) -> Spot<'_>
     ensures { IsWordOf line.now result }
 {
+    let operation = operation_index(line);
+    if !is_named_operation(line, operation) && is_of_operand(fault) {
+        return spot_upto(line, operation);
+    }
     let index = match fault {
         SourceFault::Listed(LineFault::NotText) => first_odd_word(line),
         SourceFault::Listed(LineFault::BadAddress) => 0,
@@ -27,11 +32,10 @@ pub fn word_at_fault(line: &[u8], fault: SourceFault) -> Spot<'_>
         SourceFault::Listed(LineFault::NamedTwice) if is_listed(line) => 0,
         SourceFault::BadName | SourceFault::NameTwice | SourceFault::Include => 0,
         SourceFault::MisplacedName if !is_indented(line) => 0,
-        SourceFault::UnknownOrder if has_operation_first(line) => 0,
+        SourceFault::UnknownOrder if has_operation_first(line) || has_letter_first(line) => 0,
         SourceFault::MisplacedName
         | SourceFault::Listed(_)
         | SourceFault::UnknownOrder
-        | SourceFault::Interpretive
         | SourceFault::NotSupported
         | SourceFault::ExtracodeAlone
         | SourceFault::BasicAfterExtend
@@ -42,16 +46,45 @@ pub fn word_at_fault(line: &[u8], fault: SourceFault) -> Spot<'_>
             line,
             operation_index(line) + 1,
         ),
+        SourceFault::Interpretive(fault) => operation + usize::from(is_behind(fault)),
         SourceFault::BadNumber => bad_number(line, operation_index(line)),
         SourceFault::UnknownName
         | SourceFault::NoSuchPlace
         | SourceFault::ErasableWanted
         | SourceFault::FixedWanted
         | SourceFault::ChannelWanted
+        | SourceFault::ChannelName
         | SourceFault::AnotherBank
         | SourceFault::OutOfRange => operation_index(line) + 1,
     };
     spot_upto(line, index)
+}
+
+/// Returns whether the word with an index is an order, a directive or an operation of the interpretive language.
+fn is_named_operation(line: &[u8], index: usize) -> bool {
+    match word_of(line, index) {
+        Some(word) => is_operation(without_minus(word)) || Operation::from_name(word).is_some(),
+        None => false,
+    }
+}
+
+/// Returns whether an operand on a line of its own can have a fault.
+fn is_of_operand(fault: SourceFault) -> bool {
+    matches!(
+        fault,
+        SourceFault::Interpretive(_)
+            | SourceFault::UnknownName
+            | SourceFault::NoSuchPlace
+            | SourceFault::BadOperand
+    )
+}
+
+/// Returns whether a fault of an interpretive line is one of the word behind its operation.
+fn is_behind(fault: Fault) -> bool {
+    !matches!(
+        fault,
+        Fault::TooFew | Fault::NoPushUp | Fault::NoStadr | Fault::StoreWanted
+    )
 }
 
 /// Returns whether a line begins with a blank, so that it has no name.
@@ -67,9 +100,20 @@ fn has_operation_first(line: &[u8]) -> bool {
     }
 }
 
-/// Returns whether a word is an order or a directive.
-pub fn is_operation(word: &[u8]) -> bool {
-    is_order(word) || Alias::from_name(word).is_some() || Directive::from_name(word).is_some()
+/// Returns whether a line begins with a place, except for letters O.
+fn has_letter_first(line: &[u8]) -> bool {
+    match word_of(line, 0) {
+        Some(first) => !is_indented(line) && has_letter(first),
+        None => false,
+    }
+}
+
+/// Returns whether a word is a place or a number, except for letters O.
+pub(crate) fn has_letter(word: &[u8]) -> bool {
+    let is_like_digit = |b: &u8| matches!(*b, b'0'..=b'9' | b',' | b'O' | b'o');
+    word.iter().all(is_like_digit)
+        && word.iter().any(|b| b.is_ascii_digit())
+        && word.iter().any(|b| *b == b'O' || *b == b'o')
 }
 
 /// Returns the index of a line's operation among its words.

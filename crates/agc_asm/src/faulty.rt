@@ -3,14 +3,16 @@ ghost use Rattle.agc_asm.specs.LocationCounter.{IsAt};
 
 use crate::fault::SourceFault;
 use crate::fault_place::word_at_fault;
-use crate::line_kind::{cursor_after, shape_of};
+use crate::line_kind::{LineKind, counter_after, kind_of};
 use crate::location_counter::LocationCounter;
 use crate::names::Names;
-use crate::pass1::{first_names, line_labelled, note_label};
-use crate::pass2::{State, line_woven};
+use crate::pass1::{define_label, first_names, note_label};
+use crate::pass2::{State, assemble_line};
+use crate::role::{Role, due_behind, role_of};
 use crate::source_line::{SourceLine, parse_lines};
 use agc_listing::is_no_text;
 use std::alloc::{AllocError, Global};
+use std::collections::BTreeMap;
 
 /// A faulty line, and the word of it that is at fault.
 #[derive(Clone, Copy, Debug, PartialEq, Eq)]
@@ -72,6 +74,50 @@ pub fn faulty_lines(
     Ok(found)
 }
 
+/// A fault, and the number of lines that have it.
+#[derive(Clone, Copy, Debug, PartialEq, Eq)]
+pub struct CountedFault<'a> {
+    /// The first faulty line.
+    pub first: FaultyLine<'a>,
+    /// The number of faulty lines that use the unknown name; 1 if the fault is another one.
+    pub lines: usize,
+}
+
+/// Returns the faults of a source, in the order of its lines; an unknown name is one fault. Fails if out of memory.
+pub fn counted_faults(alloc: Global, text: &[u8]) -> Result<Vec<CountedFault<'_>>, AllocError> {
+    let found = faulty_lines(alloc, text, usize::MAX)?;
+    let mut uses = uses_of(alloc, found.as_slice())?;
+    let mut faults = Vec::new(alloc);
+    for faulty in found.iter() {
+        let lines = match faulty.fault {
+            SourceFault::UnknownName => uses.remove(faulty.word).unwrap_or(0),
+            _ => 1,
+        };
+        if lines > 0 {
+            faults.push(CountedFault {
+                first: *faulty,
+                lines,
+            })?;
+        }
+    }
+    Ok(faults)
+}
+
+/// Returns for each unknown name how many faulty lines use it.
+fn uses_of<'a>(
+    alloc: Global,
+    found: &[FaultyLine<'a>],
+) -> Result<BTreeMap<&'a [u8], usize>, AllocError> {
+    let mut uses = BTreeMap::new(alloc);
+    for faulty in found {
+        if faulty.fault == SourceFault::UnknownName {
+            let count: usize = uses.get(faulty.word).copied().unwrap_or(0);
+            uses.insert(faulty.word, count.saturating_add(1))?;
+        }
+    }
+    Ok(uses)
+}
+
 /// Adds the faulty lines of the first pass, and the names of the others.
 fn push_faulty_labels<'a>(
     found: &mut Vec<FaultyLine<'a>>,
@@ -84,7 +130,7 @@ fn push_faulty_labels<'a>(
     let mut rest = lines;
     while let [line, after @ ..] = rest {
         number += 1;
-        match line_labelled(names, counter, line) {
+        match define_label(names, counter, line) {
             Ok(next) => {
                 note_label(names, line, next.place)?;
                 counter = next.counter;
@@ -111,7 +157,7 @@ fn push_faulty_words<'a>(
     let mut rest = lines;
     while let [line, after @ ..] = rest {
         number += 1;
-        match line_woven(names, state, line) {
+        match assemble_line(names, state, line) {
             Ok(step) => state = step.state,
             Err(fault) => {
                 push_faulty(found, FaultyLine::new(number, line.plain, fault), most)?;
@@ -120,6 +166,10 @@ fn push_faulty_words<'a>(
             }
         }
         rest = after;
+    }
+    if let (Some(fault), Some(last)) = (state.counter.due.fault_at_end(false), lines.last()) {
+        let fault = SourceFault::Interpretive(fault);
+        push_faulty(found, FaultyLine::new(number, last.plain, fault), most)?;
     }
     Ok(())
 }
@@ -141,11 +191,16 @@ fn moved_past(names: &Names, counter: LocationCounter, line: &SourceLine) -> Loc
     requires { IsAt counter.at }
     ensures { IsAt result.at }
 {
+    let role = role_of(&counter.due, line);
+    if !matches!(role, Role::Basic) {
+        let next = counter_after(counter, LineKind::Word).unwrap_or(counter);
+        return next.due_there(due_behind(&counter.due, role, line.words));
+    }
     let Some(operation) = &line.operation else {
         return counter;
     };
-    match shape_of(names, operation) {
-        Ok(kind) => cursor_after(counter, kind).unwrap_or(counter),
+    match kind_of(names, operation) {
+        Ok(kind) => counter_after(counter, kind).unwrap_or(counter),
         Err(_) => counter,
     }
 }

@@ -7,7 +7,7 @@ ghost use Rattle.agc_asm.specs.Mnemonic.{directive_named};
 ghost use Rattle.agc_listing.specs.Number.{begins_with_minus};
 ghost use Rattle.agc_word.specs.Number.{Number, number_from_pattern};
 ghost use Rattle.agc_asm.specs.declared.encode.Pair.{Pair};
-ghost use Rattle.agc_asm.specs.Encode.{complemented, less_than_zero, lowered, order_meaning, pair_meaning, word_meaning};
+ghost use Rattle.agc_asm.specs.Encode.{complemented, less_than_zero, lowered, order_meaning, encode_pair, encode_word};
 ghost use Rattle.agc_asm.specs.Numeral.{IsNearest, nearest, raised};
 ghost use Rattle.agc_asm.specs.declared.alias.Alias.{Alias};
 ghost use Rattle.agc_asm.specs.declared.encode.Banks.{Banks};
@@ -50,7 +50,8 @@ pub fn a_listing_shows_the_orders_of_a_source()
 /// The fault reported for a source is the first of its pass, and the first is reported: the lines before its line have
 /// no fault, and with that line they have this one. The second pass, for the words, runs only if the first pass, for
 /// the names, has no fault. The first pass begins with the names that earlier readings found for references to later
-/// lines. A text with only places and words has no names, and only the pass for its words.
+/// lines. If no line has a fault, an operand of the interpretive language that is missing at the end is one of the last
+/// line. A text with only places and words has no names, and only the pass for its words.
 pub fn the_fault_reported_is_the_first()
     ensures source { (text : List ℕ) (n : ℕ) (why : SourceFault) → is_listing text ≡ false
         → source_in text ≡ Err (Line n why) → IsFirstFault text n why }
@@ -65,7 +66,7 @@ pub fn the_fault_reported_is_the_first()
 pub fn aliases_are_the_words_of_their_table()
     ensures registers { (a : Alias) (bits : ℕ) → alias_word a ≡ Some bits
         → (naming : Naming) (here : ℕ) (banks : Banks)
-        → word_meaning naming here (is_extracode_alias a) banks (alias_name a ∷ [])
+        → encode_word naming here (is_extracode_alias a) banks (alias_name a ∷ [])
         ≡ Ok (number_from_pattern 15 bits) }
 {}
 
@@ -74,12 +75,12 @@ pub fn aliases_are_the_words_of_their_table()
 pub fn a_minus_complements_the_words()
     ensures word { (naming : Naming) (here : ℕ) (leads : Bool) (banks : Banks) (name : List ℕ) (rest : List (List ℕ)) (word : Number)
         → begins_with_minus name ≡ false → writes_nothing (directive_named name) ≡ false
-        → word_meaning naming here leads banks (name ∷ rest) ≡ Ok word
-        → word_meaning naming here leads banks ((0x2D ∷ name) ∷ rest) ≡ Ok (complemented true word) }
+        → encode_word naming here leads banks (name ∷ rest) ≡ Ok word
+        → encode_word naming here leads banks ((0x2D ∷ name) ∷ rest) ≡ Ok (complemented true word) }
     ensures pair { (naming : Naming) (here : ℕ) (banks : Banks) (name : List ℕ) (rest : List (List ℕ)) (pair : Pair)
         → begins_with_minus name ≡ false → writes_nothing (directive_named name) ≡ false
-        → pair_meaning naming here banks (name ∷ rest) ≡ Ok pair
-        → pair_meaning naming here banks ((0x2D ∷ name) ∷ rest)
+        → encode_pair naming here banks (name ∷ rest) ≡ Ok pair
+        → encode_pair naming here banks ((0x2D ∷ name) ∷ rest)
         ≡ Ok (record { upper = complemented true pair.upper; lower = complemented true pair.lower }) }
 {}
 
@@ -89,7 +90,7 @@ pub fn an_offset_is_added_to_the_word()
     ensures { (naming : Naming) (here : ℕ) (leads : Bool) (banks : Banks) (name : List ℕ) (rest : List (List ℕ)) (less : ℕ)
         → begins_with_minus name ≡ false → alias_named name ≡ None → directive_named name ≡ None
         → less_than_zero rest ≡ Some less
-        → word_meaning naming here leads banks (name ∷ rest)
+        → encode_word naming here leads banks (name ∷ rest)
         ≡ lowered less (order_meaning naming here leads name (codes "0" ∷ [])) }
 {}
 

@@ -6,14 +6,18 @@ mod alias;
 mod assemble_source;
 mod body;
 mod channel_names;
+mod channels;
 mod disassemble;
 mod encode;
 mod erase_remark;
 mod fault;
 mod fault_place;
 mod faulty;
+mod interpretive_word;
 mod laws;
 mod line_kind;
+mod line_remark;
+mod listing_doubt;
 mod listing_report;
 mod listing_style;
 mod location_counter;
@@ -25,6 +29,7 @@ mod operand;
 mod operation;
 mod pass1;
 mod pass2;
+mod role;
 mod row;
 mod source_line;
 mod source_lines;
@@ -37,13 +42,15 @@ pub use assemble_source::assemble;
 pub use channel_names::source_symbols;
 pub use disassemble::rope_source;
 pub use erase_remark::erase_remarks;
-pub use fault::{AssemblyFault, SourceFault};
+pub use fault::{AssemblyFault, EarlierLine, SourceFault};
 pub use fault_place::{Spot, word_at_fault};
+pub use faulty::{CountedFault, FaultyLine, counted_faults};
 pub use laws::{
     a_fraction_is_the_nearest_number, a_listing_shows_the_orders_of_a_source,
     a_minus_complements_the_words, aliases_are_the_words_of_their_table,
     an_offset_is_added_to_the_word, the_fault_reported_is_the_first,
 };
+pub use line_remark::line_remarks;
 pub use listing_report::check_listing;
 pub use listing_style::yul_source;
 pub use mnemonic::is_order;

@@ -1,24 +1,26 @@
 //! The kind of a line: what it occupies, and where the next one goes.
-ghost use Rattle.std.specs.Prelude.{◌≡◌, ◌<◌, ◌≤◌, length, position, IfOk, IfSome};
+ghost use Rattle.std.specs.Prelude.{◌≡◌, ◌<◌, ◌≤◌, length, position, Ok, IfOk, IfSome};
 ghost use Rattle.agc_asm.specs.Body.{spelled, tokens};
 ghost use Rattle.agc_asm.specs.LocationCounter.{IsAt};
 ghost use Rattle.agc_asm.specs.LineKind.{
-  IsShape,
+  IsKind,
   bank_in,
   bank_within,
   block_in,
   cells_by,
   cells_in,
-  cursor_after,
+  counter_after,
   cut_range,
-  directive_shape,
+  directive_kind,
   is_dash,
   is_minus,
   range_of,
-  shape_of,
+  kind_of,
   stands_for,
+  stands_for_cell,
 };
 ghost use Rattle.agc_asm.specs.Name.{naming_of};
+ghost use Rattle.agc_listing.specs.Location.{IsWithin};
 ghost use Rattle.agc_listing.specs.Number.{offset_parsed};
 ghost use Rattle.agc_listing.specs.Text.{only_of};
 ghost use Rattle.agc_word.specs.Numeral.{octal_number};
@@ -31,7 +33,7 @@ use crate::names::Names;
 use crate::operand::location_in;
 use crate::operation::Operation;
 use crate::unknown_operation::unknown_operation;
-use agc_listing::{Location, offset_parsed};
+use agc_listing::{Location, Signed, offset_parsed};
 use agc_store::place::ERASABLE_CELLS;
 use agc_word::read_octal;
 
@@ -56,6 +58,10 @@ pub(crate) enum LineKind {
     StandsFor(Location),
     /// Nothing: the line's name is a name for the location of the next line.
     StandsHere,
+    /// Nothing: the line's name is a name for the location at this offset from the next line's.
+    StandsBeside(Signed),
+    /// Nothing: the line's name is a name for the number by which the next line is behind this location.
+    StandsApart(Location),
     /// Nothing: names the erasable bank of words for BB.
     Ebank,
     /// Nothing: names the superbank of words for BB.
@@ -65,24 +71,20 @@ pub(crate) enum LineKind {
 }
 
 /// Parses the kind of a line from its operation.
-pub(crate) fn shape_of(names: &Names, operation: &Operation) -> Result<LineKind, SourceFault>
-    ensures kind { result ≡ shape_of (naming_of names.now) (spelled (tokens operation.now.body.now)) }
-    ensures range { IfOk result IsShape }
+pub(crate) fn kind_of(names: &Names, operation: &Operation) -> Result<LineKind, SourceFault>
+    ensures kind { result ≡ kind_of (naming_of names.now) (spelled (tokens operation.now.body.now)) }
+    ensures range { IfOk result IsKind }
 {
     match operation.directive {
-        Some(directive) => directive_shape(names, directive, operation.rest),
+        Some(directive) => directive_kind(names, directive, operation.rest),
         None if is_order(operation.word) => Ok(LineKind::Word),
         None => Err(unknown_operation(operation.word)),
     }
 }
 
-fn directive_shape(
-    names: &Names,
-    directive: Directive,
-    rest: &[u8],
-) -> Result<LineKind, SourceFault>
-    ensures kind { result ≡ directive_shape (naming_of names.now) directive (tokens rest.now) }
-    ensures range { IfOk result IsShape }
+fn directive_kind(names: &Names, directive: Directive, rest: &[u8]) -> Result<LineKind, SourceFault>
+    ensures kind { result ≡ directive_kind (naming_of names.now) directive (tokens rest.now) }
+    ensures range { IfOk result IsKind }
 {
     match directive {
         Directive::SetLoc => Ok(LineKind::Moves(location_in(names, rest)?)),
@@ -90,32 +92,54 @@ fn directive_shape(
         Directive::Bank => bank_in(rest),
         Directive::Block => block_in(rest),
         Directive::Erase => cells_in(rest),
-        Directive::PairOct | Directive::PairDec | Directive::PairDecStarred | Directive::PairCadr =>
-            Ok(LineKind::Pair),
+        Directive::IsMinus => Ok(LineKind::StandsApart(location_in(names, rest)?)),
+        Directive::IsEcadr => stands_for_cell(location_in(names, rest)?),
+        Directive::PairOct
+        | Directive::PairDec
+        | Directive::PairDecStarred
+        | Directive::PairCadr
+        | Directive::PairFcadr => Ok(LineKind::Pair),
         Directive::Ebank => Ok(LineKind::Ebank),
         Directive::Sbank => Ok(LineKind::Sbank),
-        Directive::Count | Directive::CountStarred | Directive::Memory | Directive::BankSum => Ok(
-            LineKind::Nothing,
-        ),
+        Directive::Count
+        | Directive::CountStarred
+        | Directive::Memory
+        | Directive::BankSum
+        | Directive::Subro => Ok(LineKind::Nothing),
         _ => Ok(LineKind::Word),
     }
 }
 
-/// Parses the operand of `=` and EQUALS: a location, or nothing for the current one.
+/// Parses the operand of `=` and EQUALS: a location, an offset from the current one, or nothing for that itself.
 fn stands_for(names: &Names, rest: &[u8]) -> Result<LineKind, SourceFault>
     ensures kind { result ≡ stands_for (naming_of names.now) (tokens rest.now) }
-    ensures range { IfOk result IsShape }
+    ensures range { IfOk result IsKind }
 {
-    match next_token(rest) {
-        Some(_) => Ok(LineKind::StandsFor(location_in(names, rest)?)),
-        None => Ok(LineKind::StandsHere),
+    let Some((word, more)) = next_token(rest) else {
+        return Ok(LineKind::StandsHere);
+    };
+    match offset_parsed(word) {
+        Some(by) if next_token(more).is_none() => Ok(LineKind::StandsBeside(by)),
+        _ => Ok(LineKind::StandsFor(location_in(names, rest)?)),
+    }
+}
+
+/// Checks that the location of =ECADR is a cell.
+fn stands_for_cell(location: Location) -> Result<LineKind, SourceFault>
+    requires { IsWithin location }
+    ensures kind { result ≡ stands_for_cell (Ok location) }
+    ensures range { IfOk result IsKind }
+{
+    match location {
+        Location::Erasable(_) => Ok(LineKind::StandsFor(location)),
+        Location::Fixed(_) => Err(SourceFault::ErasableWanted),
     }
 }
 
 /// Parses the operand of BANK: a bank, or nothing for the current one.
 fn bank_in(rest: &[u8]) -> Result<LineKind, SourceFault>
     ensures bank { result ≡ bank_in (tokens rest.now) }
-    ensures range { IfOk result IsShape }
+    ensures range { IfOk result IsKind }
 {
     let Some((word, more)) = next_token(rest) else {
         return Ok(LineKind::Resumes);
@@ -132,7 +156,7 @@ fn bank_in(rest: &[u8]) -> Result<LineKind, SourceFault>
 /// Parses the operand of BLOCK: bank 02 or 03.
 fn block_in(rest: &[u8]) -> Result<LineKind, SourceFault>
     ensures bank { result ≡ block_in (only_of (tokens rest.now)) }
-    ensures range { IfOk result IsShape }
+    ensures range { IfOk result IsKind }
 {
     let Some(word) = only_token(rest) else {
         return Err(SourceFault::BadPlace);
@@ -146,7 +170,7 @@ fn block_in(rest: &[u8]) -> Result<LineKind, SourceFault>
 /// Parses which cells ERASE reserves from its operand.
 fn cells_in(rest: &[u8]) -> Result<LineKind, SourceFault>
     ensures cells { result ≡ cells_in (tokens rest.now) }
-    ensures range { IfOk result IsShape }
+    ensures range { IfOk result IsKind }
 {
     let Some((word, more)) = next_token(rest) else {
         return Ok(LineKind::Cells(1));
@@ -169,7 +193,7 @@ fn is_dash(word: &[u8]) -> bool
 /// Parses how many more cells there are, or a range without blanks.
 fn cells_by(word: &[u8]) -> Result<LineKind, SourceFault>
     ensures cells { result ≡ cells_by (offset_parsed word.now) word.now }
-    ensures range { IfOk result IsShape }
+    ensures range { IfOk result IsKind }
 {
     match offset_parsed(word) {
         Some(by) if !by.minus => Ok(LineKind::Cells(by.magnitude as u32 + 1)),
@@ -180,7 +204,7 @@ fn cells_by(word: &[u8]) -> Result<LineKind, SourceFault>
 
 fn cut_range(word: &[u8]) -> Result<LineKind, SourceFault>
     ensures cells { result ≡ cut_range (position is_minus word.now) word.now }
-    ensures range { IfOk result IsShape }
+    ensures range { IfOk result IsKind }
 {
     match first_minus(word) {
         Some(at) => range_of(read_octal(6, &word[..at]), read_octal(6, &word[at + 1..])),
@@ -197,7 +221,7 @@ fn first_minus(word: &[u8]) -> Option<usize>
 
 fn range_of(first: Option<u64>, last: Option<u64>) -> Result<LineKind, SourceFault>
     ensures cells { result ≡ range_of first last }
-    ensures range { IfOk result IsShape }
+    ensures range { IfOk result IsKind }
 {
     match (first, last) {
         (Some(first), Some(last)) if first <= last && last < u64::from(ERASABLE_CELLS) => {
@@ -208,13 +232,13 @@ fn range_of(first: Option<u64>, last: Option<u64>) -> Result<LineKind, SourceFau
 }
 
 /// Returns the location counter after a line of a kind.
-pub(crate) fn cursor_after(
+pub(crate) fn counter_after(
     counter: LocationCounter,
     kind: LineKind,
 ) -> Result<LocationCounter, SourceFault>
     requires at { IsAt counter.at }
-    requires kind { IsShape kind }
-    ensures after { result ≡ cursor_after counter kind }
+    requires kind { IsKind kind }
+    ensures after { result ≡ counter_after counter kind }
     ensures range { IfOk result (λ next. IsAt next.at) }
 {
     match kind {

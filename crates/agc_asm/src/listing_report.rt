@@ -1,5 +1,5 @@
 //! Reports what is wrong with the text of a rope or with a source.
-ghost use Rattle.std.specs.Prelude.{◌≡◌, ◌++◌, IfOk, OnOk, is_ok, string_bytes};
+ghost use Rattle.std.specs.Prelude.{◌≡◌, ◌++◌, ℕ, List, false, IfOk, OnOk, is_ok, string_bytes};
 ghost use Rattle.agc_asm.specs.Source.{source_in};
 ghost use Rattle.agc_asm.specs.ListingReport.{IsListingReport, listing_fault_text};
 
@@ -7,21 +7,21 @@ use crate::assemble_source::assemble;
 use crate::body::code_of;
 use crate::fault::{AssemblyFault, SourceFault};
 use crate::fault_place::word_at_fault;
-use crate::faulty::faulty_lines;
-use crate::source_remark::push_source_why;
-use agc_listing::{
-    LineFault, Report, is_listed, push_file_line, push_quoted, push_quoted_then, words_of,
-};
+use crate::faulty::counted_faults;
+use crate::listing_doubt::doubts;
+use crate::source_lines::overlapped_line;
+use crate::source_remark::{push_letter_below, push_source_why};
+use agc_listing::{LineFault, Report, push_file_line, push_quoted, push_quoted_then, words_of};
 use agc_store::RopeForm;
 use agc_word::without_return;
 use std::alloc::{AllocError, Global};
 
 /// The most faulty lines that a report shows.
-const MOST_LINES: usize = 20;
+const MOST_LINES: usize = 100;
 
 /// Checks the text of a rope as `weave` reads it: places and words, or names, orders and directives. The report says
-/// that it has no fault, or gives the first fault of the first faulty line found and what is wrong there. Fails if out
-/// of memory.
+/// that it has no fault, and which lines of places and words are in doubt, or gives the first fault of the first faulty
+/// line found and what is wrong there. Fails if out of memory.
 pub fn check_listing(alloc: Global, file: &[u8]) -> Result<Report, AllocError>
     ensures sound { IfOk result (λ report. report.is_sound ≡ is_ok (source_in file.now)) }
     ensures text { IfOk result (λ report. IsListingReport file.now (string_bytes report.text)) }
@@ -29,23 +29,44 @@ pub fn check_listing(alloc: Global, file: &[u8]) -> Result<Report, AllocError>
     let mut text = String::new(alloc);
     match assemble(alloc, RopeForm::Classic, file) {
         Ok(_) => {
-            text.push_str("text: no fault\n")?;
+            text.push_str("text: no fault")?;
+            let doubts = doubts(alloc, file)?;
+            text.push_str(doubts.as_str())?;
             Ok(Report {
                 text,
                 is_sound: true,
             })
         }
         Err(AssemblyFault::Memory) => Err(AllocError),
-        Err(AssemblyFault::Line(number, fault)) => {
-            push_listing_fault(&mut text, number, fault)?;
-            let remarks = remarks(alloc, file, number, fault)?;
-            text.push_str(remarks.as_str())?;
-            Ok(Report {
-                text,
-                is_sound: false,
-            })
-        }
+        Err(AssemblyFault::Line(number, fault)) => faulty_report(alloc, file, number, fault),
+        Err(AssemblyFault::Overlap(number, _)) => faulty_report(
+            alloc,
+            file,
+            number,
+            SourceFault::Listed(LineFault::NamedTwice),
+        ),
     }
+}
+
+/// Returns the report on a text with this first fault.
+fn faulty_report(
+    alloc: Global,
+    file: &[u8],
+    number: usize,
+    fault: SourceFault,
+) -> Result<Report, AllocError>
+    ensures sound { IfOk result (λ report. report.is_sound ≡ false) }
+    ensures text { IfOk result (λ report. (why : List ℕ)
+        × (string_bytes report.text ≡ listing_fault_text number fault ++ why)) }
+{
+    let mut text = String::new(alloc);
+    push_listing_fault(&mut text, number, fault)?;
+    let remarks = remarks(alloc, file, number, fault)?;
+    text.push_str(remarks.as_str())?;
+    Ok(Report {
+        text,
+        is_sound: false,
+    })
 }
 
 /// Appends the number of a line and its fault.
@@ -63,22 +84,42 @@ fn push_listing_fault(
     text.push_str("\n")
 }
 
-/// Returns the remark on the first faulty line, and below it the other faulty lines with theirs.
+/// Returns the remark on the first faulty line, and below it the other faulty lines with theirs. An unknown name has one
+/// line, with the number of the lines that use it.
 fn remarks(
     alloc: Global,
     file: &[u8],
     number: usize,
     fault: SourceFault,
 ) -> Result<String, AllocError> {
+    let found = counted_faults(alloc, file)?;
     let mut text = remark(alloc, file, number, fault)?;
-    for faulty in faulty_lines(alloc, file, MOST_LINES)?.iter() {
-        if faulty.line != number {
-            push_listing_fault(&mut text, faulty.line, faulty.fault)?;
-            let remark = remark(alloc, file, faulty.line, faulty.fault)?;
-            text.push_str(remark.as_str())?;
+    for counted in found.iter() {
+        if counted.first.line == number {
+            push_uses(&mut text, counted.lines)?;
         }
     }
+    let mut room = MOST_LINES.saturating_sub(1);
+    for counted in found.iter() {
+        let faulty = counted.first;
+        if faulty.line == number || room == 0 {
+            continue;
+        }
+        room = room.saturating_sub(1);
+        push_listing_fault(&mut text, faulty.line, faulty.fault)?;
+        let remark = remark(alloc, file, faulty.line, faulty.fault)?;
+        text.push_str(remark.as_str())?;
+        push_uses(&mut text, counted.lines)?;
+    }
     Ok(text)
+}
+
+/// Appends how many lines use an unknown name, if there are several.
+fn push_uses(text: &mut String, count: usize) -> Result<(), AllocError> {
+    if count > 1 {
+        writeln!(text, "    {count} lines use this name")?;
+    }
+    Ok(())
 }
 
 /// Returns the faulty line, and below it the word that is wrong, with its column, and what is expected.
@@ -94,7 +135,10 @@ fn remark(
     push_file_line(&mut text, line)?;
     text.push_str("\n    ")?;
     write!(text, "column {}: ", word_at_fault(line, fault).column)?;
-    push_line_why(alloc, &mut text, file, line, fault)?;
+    match fault {
+        SourceFault::Listed(LineFault::NamedTwice) => push_owner(alloc, &mut text, file, number)?,
+        _ => push_line_why(alloc, &mut text, file, line, fault)?,
+    }
     Ok(text)
 }
 
@@ -106,6 +150,21 @@ fn line_at(file: &[u8], number: usize) -> &[u8] {
     }
 }
 
+/// Appends which earlier line has a word at a place of a line.
+fn push_owner(
+    alloc: Global,
+    text: &mut String,
+    file: &[u8],
+    number: usize,
+) -> Result<(), AllocError> {
+    let fault = SourceFault::Listed(LineFault::NamedTwice);
+    push_quoted(text, word_at_fault(line_at(file, number), fault).word)?;
+    match overlapped_line(alloc, file, number)? {
+        Some(owner) => writeln!(text, " has its word from line {owner}"),
+        None => text.push_str(" has its word from an earlier line\n"),
+    }
+}
+
 /// Appends the word that is wrong in a line, and what is expected.
 fn push_line_why(
     alloc: Global,
@@ -114,24 +173,12 @@ fn push_line_why(
     line: &[u8],
     fault: SourceFault,
 ) -> Result<(), AllocError> {
+    let words = words_of(alloc, code_of(line))?;
     match fault {
-        SourceFault::Listed(fault) if fault != LineFault::NamedTwice || is_listed(line) => {
-            let words = words_of(alloc, code_of(line))?;
-            push_why(text, fault, words.as_slice())
-        }
+        SourceFault::Listed(LineFault::NotText) => push_not_text(text, words.as_slice()),
+        SourceFault::Listed(LineFault::BadAddress) => push_bad_address(text, words.as_slice()),
+        SourceFault::Listed(LineFault::BadWord) => push_bad_word(text, words.as_slice()),
         fault => push_source_why(alloc, text, file, line, fault),
-    }
-}
-
-fn push_why(text: &mut String, fault: LineFault, words: &[&[u8]]) -> Result<(), AllocError> {
-    match fault {
-        LineFault::NotText => push_not_text(text, words),
-        LineFault::BadAddress => push_bad_address(text, words),
-        LineFault::BadWord => push_bad_word(text, words),
-        LineFault::NamedTwice => {
-            push_word(text, words, 0)?;
-            text.push_str(" has a word from an earlier line: write each place once\n")
-        }
     }
 }
 
@@ -156,12 +203,14 @@ fn push_bad_address(text: &mut String, words: &[&[u8]]) -> Result<(), AllocError
     push_word(text, words, 0)?;
     text.push_str(
         " is not a place of a rope: 4000 to 7777, or a bank from 00 to 43 and an address, as 04,2000; start comments with #\n",
-    )
+    )?;
+    push_letter_below(text, words.first().copied().unwrap_or(&[]))
 }
 
 fn push_bad_word(text: &mut String, words: &[&[u8]]) -> Result<(), AllocError> {
     if words.len() > 1 {
-        push_quoted_then(text, words[1], " is not a word: five octal digits\n")
+        push_quoted_then(text, words[1], " is not a word: five octal digits\n")?;
+        push_letter_below(text, words[1])
     } else {
         text.push_str("the word is missing: five octal digits after the place\n")
     }

@@ -55,7 +55,7 @@ fn is_source_of(alloc: Global, text: &[u8], store: &Store) -> Result<bool, Alloc
     }
     let builder = match source_words(alloc, text) {
         Ok(builder) => builder,
-        Err(AssemblyFault::Line(_, _)) => return Ok(false),
+        Err(AssemblyFault::Line(_, _) | AssemblyFault::Overlap(_, _)) => return Ok(false),
         Err(AssemblyFault::Memory) => return Err(AllocError),
     };
     let words = builder.words();
@@ -217,17 +217,39 @@ fn push_order(
     let operand = operand_in(row.takes, word);
     match alias_of(row, operand, place) {
         Some(alias) => text.push_str(alias.name()),
-        None => push_row(text, row, operand),
+        None => push_row(text, row, operand, place),
     }
 }
 
-fn push_row(text: &mut String, row: Row, operand: Operand) -> Result<(), AllocError> {
+fn push_row(text: &mut String, row: Row, operand: Operand, place: usize) -> Result<(), AllocError>
+    requires { place < fixed_words }
+{
     text.push_str(row.mnemonic)?;
     match operand {
         Operand::Nothing => Ok(()),
-        Operand::Address(address) => write!(text, "\t{address:o}"),
+        Operand::Address(address) => {
+            let number = operand_number(address, place);
+            write!(text, "\t{number:o}")
+        }
         Operand::Channel(channel) => write!(text, "\t{channel:o}"),
     }
+}
+
+/// Returns the number of the location that an order at a place addresses, as listings count all memory. In the window of
+/// fixed memory it is a place of the order's own bank. An order in 02 or 03 does not say the bank: then bank 00 is taken,
+/// whose places have the same address.
+fn operand_number(address: u16, place: usize) -> usize
+    requires { place < fixed_words }
+{
+    let address = usize::from(address);
+    if !(0o2000..0o4000).contains(&address) {
+        return address;
+    }
+    let bank = match place / 0o2000 {
+        2 | 3 => 0,
+        bank => bank,
+    };
+    0o10000 + 0o2000 * bank + address % 0o2000
 }
 
 /// Returns the name that an order with its operand has of its own.

@@ -1,13 +1,15 @@
 //! The location counter: where the next line of a source goes.
 ghost use Rattle.agc_asm.specs.LineKind.{after_line_words};
-ghost use Rattle.std.specs.Prelude.{◌≡◌, ◌+◌, ◌*◌, ◌<◌, ◌≤◌, get_or, IfOk, IsOk};
+ghost use Rattle.std.specs.Prelude.{◌≡◌, ◌+◌, ◌*◌, ◌^◌, ◌<◌, ◌≤◌, get_or, IfOk, IsOk};
 ghost use Rattle.agc_store.specs.Places.{erasable_cells, fixed_bank_size, fixed_banks, fixed_words};
 ghost use Rattle.agc_asm.specs.LocationCounter.{
   IsAt,
+  IsSmall,
   after_cells,
   after_range,
   after_words,
-  first_cursor,
+  due_there,
+  first_counter,
   in_bank,
   location_at,
   moved_to,
@@ -19,6 +21,7 @@ ghost use Rattle.agc_listing.specs.Location.{IsWithin};
 ghost use Rattle.agc_asm.specs.declared.location_counter.At.TheVariants as at;
 
 use crate::fault::SourceFault;
+use agc_interpretive::Pending;
 use agc_listing::Location;
 use agc_store::place::{
     ERASABLE_BANK_SIZE, ERASABLE_CELLS, ERASABLE_WINDOW, FIXED_BANK_SIZE, bank_of, offset_of,
@@ -42,25 +45,38 @@ pub(crate) struct LocationCounter {
     /// The offset behind the highest word so far in each bank.
     pub used: [u16; 36],
     pub at: At,
+    /// The operands of the interpretive language that are due before the next line. A move takes them away.
+    pub due: Pending,
 }
 
 impl LocationCounter {
     /// Starts at the first place of bank 02.
     pub fn new() -> LocationCounter
-        ensures start { result ≡ first_cursor }
+        ensures start { result ≡ first_counter }
         ensures range { IsAt result.at }
     {
         LocationCounter {
             left: [0; 36],
             used: [0; 36],
             at: At::Bank(2),
+            due: Pending::NOTHING,
         }
+    }
+
+    /// Returns the location counter with these operands due.
+    pub fn due_there(self, due: Pending) -> LocationCounter
+        ensures { result ≡ due_there due self }
+    {
+        let mut next = self;
+        next.due = due;
+        next
     }
 
     /// Returns the location of the next line.
     pub fn location(&self) -> Location
         requires { IsAt self.now.at }
-        ensures { result ≡ location_at self.now self.now.at }
+        ensures location { result ≡ location_at self.now self.now.at }
+        ensures small { IsSmall result }
     {
         match self.at {
             At::Bank(bank) => Location::Fixed(self.place_in(bank)),
@@ -71,7 +87,8 @@ impl LocationCounter {
     /// Returns the place at which a bank was left.
     fn place_in(&self, bank: u8) -> u32
         requires { bank < fixed_banks }
-        ensures { result ≡ fixed_bank_size * bank + get_or self.now.left bank 0 }
+        ensures place { result ≡ fixed_bank_size * bank + get_or self.now.left bank 0 }
+        ensures small { result < 2 ^ 20 }
     {
         place_of(bank, self.left[usize::from(bank)])
     }
@@ -107,6 +124,7 @@ impl LocationCounter {
             next.left[usize::from(bank)] = end;
             let used = self.used[usize::from(bank)];
             next.used[usize::from(bank)] = if end <= used { used } else { end };
+            next.due = Pending::NOTHING;
         }
         next
     }
@@ -134,6 +152,7 @@ impl LocationCounter {
         ensures range { IsAt result.at }
     {
         let mut next = self;
+        next.due = Pending::NOTHING;
         match location {
             Location::Fixed(place) => {
                 let bank = bank_of(place);
@@ -154,6 +173,7 @@ impl LocationCounter {
         let mut next = self;
         next.left[usize::from(bank)] = self.used[usize::from(bank)];
         next.at = At::Bank(bank);
+        next.due = Pending::NOTHING;
         next
     }
 
@@ -180,6 +200,7 @@ impl LocationCounter {
             At::Cell(_) => {
                 let mut next = self;
                 next.at = At::Cell(end);
+                next.due = Pending::NOTHING;
                 Ok(next)
             }
         }
@@ -198,6 +219,7 @@ impl LocationCounter {
         if cell + count <= u32::from(ERASABLE_CELLS) && cell + count <= stretch_end(cell) {
             let mut next = self;
             next.at = At::Cell(cell + count);
+            next.due = Pending::NOTHING;
             Ok(next)
         } else {
             Err(SourceFault::Full)

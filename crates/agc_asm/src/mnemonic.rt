@@ -71,11 +71,39 @@ pub enum Directive {
     Memory,
     /// Means nothing here.
     BankSum,
+    /// An address for FB and Z, as two words.
+    PairFcadr,
+    /// A verb and a noun.
+    NounVerb,
+    /// The word for BB that Luminary and Colossus compute with.
+    BbconStarred,
+    /// A downlink word: a pair of words at a cell.
+    Dnadr1,
+    /// A downlink word: two pairs.
+    Dnadr2,
+    /// A downlink word: three pairs.
+    Dnadr3,
+    /// A downlink word: four pairs.
+    Dnadr4,
+    /// A downlink word: five pairs.
+    Dnadr5,
+    /// A downlink word: six pairs.
+    Dnadr6,
+    /// A downlink word: a list.
+    Dnptr,
+    /// A downlink word: a channel and the next one.
+    Dnchan,
+    /// The name stands for the distance of this line from the operand.
+    IsMinus,
+    /// The name stands for the cell.
+    IsEcadr,
+    /// Means nothing here.
+    Subro,
 }
 
 impl Directive {
     /// Every directive, once.
-    pub const ALL: [Directive; 29] = [
+    pub const ALL: [Directive; 43] = [
         Directive::SetLoc,
         Directive::Bank,
         Directive::Block,
@@ -105,6 +133,20 @@ impl Directive {
         Directive::CountStarred,
         Directive::Memory,
         Directive::BankSum,
+        Directive::PairFcadr,
+        Directive::NounVerb,
+        Directive::BbconStarred,
+        Directive::Dnadr1,
+        Directive::Dnadr2,
+        Directive::Dnadr3,
+        Directive::Dnadr4,
+        Directive::Dnadr5,
+        Directive::Dnadr6,
+        Directive::Dnptr,
+        Directive::Dnchan,
+        Directive::IsMinus,
+        Directive::IsEcadr,
+        Directive::Subro,
     ];
 
     /// Returns the directive with this name.
@@ -152,6 +194,20 @@ impl Directive {
             Directive::CountStarred => "COUNT*",
             Directive::Memory => "MEMORY",
             Directive::BankSum => "BNKSUM",
+            Directive::PairFcadr => "2FCADR",
+            Directive::NounVerb => "NV",
+            Directive::BbconStarred => "BBCON*",
+            Directive::Dnadr1 => "1DNADR",
+            Directive::Dnadr2 => "2DNADR",
+            Directive::Dnadr3 => "3DNADR",
+            Directive::Dnadr4 => "4DNADR",
+            Directive::Dnadr5 => "5DNADR",
+            Directive::Dnadr6 => "6DNADR",
+            Directive::Dnptr => "DNPTR",
+            Directive::Dnchan => "DNCHAN",
+            Directive::IsMinus => "=MINUS",
+            Directive::IsEcadr => "=ECADR",
+            Directive::Subro => "SUBRO",
         }
     }
 }

@@ -1,17 +1,20 @@
 //! The names of a source, each with its location.
 ghost use Rattle.std.specs.Prelude.{◌≡◌, OnOk};
-ghost use Rattle.agc_asm.specs.Name.{given_of, guessing, known, naming_of, own_names, with_name};
+ghost use Rattle.agc_asm.specs.Name.{channels_of, given_of, guessing, known, naming_of, own_names, with_channel, with_name};
 
 use agc_listing::Location;
 use agc_symbols::Register;
 use std::alloc::{AllocError, Global};
 use std::collections::BTreeMap;
 
-/// The names of lines, those that an earlier reading of the source found, and the computer's own.
+/// The names of lines, those that an earlier reading of the source found, and the computer's own; and the names that
+/// orders take as channels.
 #[derive(Drop)]
 pub struct Names<'a> {
     given: BTreeMap<&'a [u8], Location>,
     guess: BTreeMap<&'a [u8], Location>,
+    /// The last line that takes the name.
+    channels: BTreeMap<&'a [u8], usize>,
 }
 
 impl<'a> Names<'a> {
@@ -22,6 +25,7 @@ impl<'a> Names<'a> {
         Names {
             given: BTreeMap::new(alloc),
             guess: BTreeMap::new(alloc),
+            channels: BTreeMap::new(alloc),
         }
     }
 
@@ -32,6 +36,7 @@ impl<'a> Names<'a> {
         Names {
             given: BTreeMap::new(alloc),
             guess: self.given,
+            channels: BTreeMap::new(alloc),
         }
     }
 
@@ -65,5 +70,20 @@ impl<'a> Names<'a> {
     {
         self.given.insert(name, place)?;
         Ok(())
+    }
+
+    /// Notes that a line takes a name as a channel's.
+    pub fn add_channel(&mut self, name: &'a [u8], line: usize) -> Result<(), AllocError>
+        ensures { OnOk result (naming_of self.new ≡ with_channel (naming_of self.old) name.now line) }
+    {
+        self.channels.insert(name, line)?;
+        Ok(())
+    }
+
+    /// Returns the last line that takes a name as a channel's.
+    pub fn channel_line(&self, name: &[u8]) -> Option<usize>
+        ensures { result ≡ channels_of self.now name.now }
+    {
+        self.channels.get(name).copied()
     }
 }

@@ -1,17 +1,23 @@
 //! Parses operands: an address, a place or a cell, and an offset from it.
-ghost use Rattle.std.specs.Prelude.{◌≡◌, ◌+◌, ◌<◌, ◌^◌, length, IfOk, IfSome};
+ghost use Rattle.std.specs.Prelude.{◌≡◌, true, ◌+◌, ◌<◌, ◌^◌, length, Ok, IfOk, IfSome};
 ghost use Rattle.agc_asm.specs.Body.{tokens};
 ghost use Rattle.agc_asm.specs.Name.{naming_of};
 ghost use Rattle.agc_asm.specs.Operand.{
   address_at,
   address_of,
+  as_memory,
   begins_offset,
   channel_at,
+  is_channel_cell,
+  is_channel_name,
   located,
+  location_apart,
+  location_beside,
   location_for,
   location_in,
   location_of,
   moved,
+  number_of_location,
   no_value,
   offset_place,
   operand_for,
@@ -25,6 +31,7 @@ ghost use Rattle.agc_asm.specs.Operand.{
   value_parts,
   value_whole,
 };
+ghost use Rattle.agc_asm.specs.LocationCounter.{IsSmall};
 ghost use Rattle.agc_listing.specs.Location.{IsWithin};
 ghost use Rattle.agc_listing.specs.Number.{offset_parsed};
 
@@ -36,7 +43,7 @@ use agc_listing::{
     location_named, location_numbered, offset_parsed,
 };
 use agc_order::Takes;
-use agc_store::place::{ERASABLE_CELLS, FIXED_WORDS};
+use agc_store::place::{ERASABLE_CELLS, FIXED_FIXED, FIXED_WORDS};
 use agc_word::read_octal;
 
 /// The value of an operand.
@@ -68,8 +75,30 @@ pub(crate) fn operand_for(
         }
         _ => {
             let value = value_of(names, here, text)?;
-            Ok(Operand::Address(address_at(here, value)?))
+            as_memory(is_channel_name(names, text), here, value)
         }
+    }
+}
+
+/// Returns the address that a value names; the name of a channel is not the name of a cell.
+fn as_memory(named: bool, here: u32, value: Value) -> Result<Operand, SourceFault>
+    ensures { result ≡ as_memory named here (Ok value) }
+{
+    match value {
+        Value::At(Location::Erasable(cell)) if named && is_channel_cell(cell) => {
+            Err(SourceFault::ChannelName)
+        }
+        value => Ok(Operand::Address(address_at(here, value)?)),
+    }
+}
+
+/// Returns whether an operand begins with a name that an order of the source takes as a channel.
+fn is_channel_name(names: &Names, text: &[u8]) -> bool
+    ensures { result ≡ is_channel_name (naming_of names.now) (tokens text.now) }
+{
+    match next_token(text) {
+        Some((word, _)) => names.channel_line(word).is_some(),
+        None => false,
     }
 }
 
@@ -111,7 +140,7 @@ fn value_beside(names: &Names, word: &[u8], by: &[u8]) -> Result<Value, SourceFa
 }
 
 /// Parses a word; one that means nothing as a whole is cut before a sign.
-fn value_in(names: &Names, word: &[u8]) -> Result<Value, SourceFault>
+pub(crate) fn value_in(names: &Names, word: &[u8]) -> Result<Value, SourceFault>
     ensures { result ≡ value_in (naming_of names.now) word.now }
 {
     match value_whole(names, word) {
@@ -187,7 +216,7 @@ fn no_value(word: &[u8]) -> SourceFault
 }
 
 /// Adds an offset to a value.
-fn value_moved(value: Value, by: Signed) -> Result<Value, SourceFault>
+pub(crate) fn value_moved(value: Value, by: Signed) -> Result<Value, SourceFault>
     requires { by.magnitude < 100000 }
     ensures { result ≡ value_moved value by }
 {
@@ -228,6 +257,42 @@ pub(crate) fn location_in(names: &Names, text: &[u8]) -> Result<Location, Source
     located(location_of(value_apart(names, text)?))
 }
 
+/// Returns the location at an offset from another one.
+pub(crate) fn location_beside(here: Location, by: Signed) -> Result<Location, SourceFault>
+    requires { by.magnitude < 100000 }
+    ensures location { result ≡ location_beside here by }
+    ensures range { IfOk result IsWithin }
+{
+    located(location_of(value_moved(Value::At(here), by)?))
+}
+
+/// Returns the number by which a location is behind another one, as the location of this number.
+pub(crate) fn location_apart(here: Location, from: Location) -> Result<Location, SourceFault>
+    requires here { IsSmall here }
+    requires from { IsWithin from }
+    ensures location { result ≡ location_apart here from }
+    ensures range { IfOk result IsWithin }
+{
+    let (here, from) = (number_of_location(here), number_of_location(from));
+    if from <= here {
+        located(location_numbered(here - from))
+    } else {
+        Err(SourceFault::NoSuchPlace)
+    }
+}
+
+/// Returns the number of a location, as listings count all memory.
+fn number_of_location(location: Location) -> u32
+    requires { IsSmall location }
+    ensures { result ≡ number_of_location location }
+{
+    match location {
+        Location::Erasable(cell) => cell,
+        Location::Fixed(place) if u32::from(FIXED_FIXED) <= place && place < 0o10000 => place,
+        Location::Fixed(place) => place + 0o10000,
+    }
+}
+
 /// Returns the location that the operand of a word at a place names; an offset alone is relative to that place.
 pub(crate) fn location_for(names: &Names, here: u32, text: &[u8]) -> Result<Location, SourceFault>
     ensures location { result ≡ location_for (naming_of names.now) here (tokens text.now) }
@@ -252,7 +317,7 @@ fn value_apart(names: &Names, text: &[u8]) -> Result<Value, SourceFault>
 }
 
 /// Returns the location of a value; a number names one as listings count all memory.
-fn location_of(value: Value) -> Option<Location>
+pub(crate) fn location_of(value: Value) -> Option<Location>
     ensures { result ≡ location_of value }
 {
     match value {
@@ -262,7 +327,7 @@ fn location_of(value: Value) -> Option<Location>
 }
 
 /// Checks that a location is in memory.
-fn located(location: Option<Location>) -> Result<Location, SourceFault>
+pub(crate) fn located(location: Option<Location>) -> Result<Location, SourceFault>
     ensures location { result ≡ located location }
     ensures range { IfOk result IsWithin }
 {
@@ -306,18 +371,22 @@ fn address_of(here: u32, location: Location) -> Result<u16, SourceFault>
     }
 }
 
-/// Returns the channel that a value names.
-fn channel_at(value: Value) -> Result<u16, SourceFault>
-    ensures { result ≡ channel_at value }
+/// Returns the channel that a value names. A name of a memory cell is none.
+pub(crate) fn channel_at(value: Value) -> Result<u16, SourceFault>
+    ensures channel { result ≡ channel_at value }
+    ensures range { IfOk result (λ channel. channel < 0o1000) }
 {
-    let number = match value {
-        Value::Number(number) => number,
-        Value::At(Location::Erasable(cell)) => cell,
-        Value::At(Location::Fixed(_)) => return Err(SourceFault::ChannelWanted),
-    };
-    if number < 0o1000 {
-        Ok(number as u16)
-    } else {
-        Err(SourceFault::ChannelWanted)
+    match value {
+        Value::Number(number) if number < 0o1000 => Ok(number as u16),
+        Value::At(Location::Erasable(cell)) if is_channel_cell(cell) => Ok(cell as u16),
+        _ => Err(SourceFault::ChannelWanted),
     }
+}
+
+/// Returns whether the name of a cell may be that of a channel: of a register or counter, or of 77.
+fn is_channel_cell(cell: u32) -> bool
+    ensures cell { result ≡ is_channel_cell cell }
+    ensures range { result ≡ true → cell < 0o1000 }
+{
+    cell < 0o61 || cell == 0o77
 }

@@ -1,33 +1,41 @@
 //! The first pass over a source: collects its names.
 ghost use Rattle.std.specs.Prelude.{◌≡◌, ◌≢◌, ◌<◌, None, Ok, Err, IfOk, IfErr, IfSome, IsOk, OnOk, map, option_map};
-ghost use Rattle.agc_asm.specs.Body.{plain_line};
-ghost use Rattle.agc_asm.specs.LocationCounter.{IsAt, first_cursor};
+ghost use Rattle.agc_asm.specs.Body.{line_label, plain_line};
+ghost use Rattle.agc_asm.specs.LocationCounter.{IsAt, first_counter};
+ghost use Rattle.agc_asm.specs.FaultText.{later_fault};
 ghost use Rattle.agc_asm.specs.Name.{given_of, guessing, naming_of};
-ghost use Rattle.agc_asm.specs.LineKind.{IsShape, cursor_after, shape_of};
+ghost use Rattle.agc_asm.specs.Interpretive.{spoken_words};
+ghost use Rattle.agc_asm.specs.LineKind.{IsKind, counter_after, kind_of};
 ghost use Rattle.agc_asm.specs.Source.{
   first_names,
   found_after,
   found_from,
   here_place,
-  is_include,
+  basic_labelled,
   label_place,
-  line_labelled,
+  define_label,
   listed_labelled,
   names_in,
   naming_after,
   place_labelled,
   shape_labelled,
+  spoken_labelled,
 };
 ghost use Rattle.agc_listing.specs.Location.{IsWithin};
-ghost use Rattle.agc_listing.specs.Text.{label_of, parsed_by};
+ghost use Rattle.agc_listing.specs.Text.{parsed_by};
 ghost use Rattle.agc_listing.specs.Line.{line_named};
 ghost use Rattle.agc_asm.specs.declared.fault.AssemblyFault.TheVariants.{Memory};
 
+use crate::body::is_include;
+use crate::channels::note_channels;
 use crate::fault::{AssemblyFault, SourceFault};
-use crate::line_kind::{LineKind, cursor_after, shape_of};
+use crate::line_kind::{LineKind, counter_after, kind_of};
 use crate::location_counter::{At, LocationCounter};
 use crate::names::Names;
+use crate::operand::{location_apart, location_beside};
+use crate::role::{Role, due_behind, role_of};
 use crate::source_line::SourceLine;
+use agc_interpretive::Pending;
 use agc_listing::{LineFault, Location, has_other_byte, is_name, read_line};
 use agc_store::place::ERASABLE_CELLS;
 use std::alloc::{AllocError, Global};
@@ -47,7 +55,7 @@ pub(crate) fn read_names<'a>(
 ) -> Result<Names<'a>, AssemblyFault>
     ensures names { IfOk result (λ names. names_in (map (λ line. line.text.now) lines.now) ≡ Ok (naming_of names)) }
     ensures fault { IfErr result (λ why. why ≢ Memory
-        → names_in (map (λ line. line.text.now) lines.now) ≡ Err why) }
+        → names_in (map (λ line. line.text.now) lines.now) ≡ Err (later_fault why)) }
 {
     let mut names = first_names(alloc, lines)?;
     let mut counter = LocationCounter::new();
@@ -55,7 +63,7 @@ pub(crate) fn read_names<'a>(
     let mut rest = lines;
     while let [line, after @ ..] = rest {
         number += 1;
-        match line_labelled(&names, counter, line) {
+        match define_label(&names, counter, line) {
             Ok(next) => {
                 note_label(&mut names, line, next.place)?;
                 counter = next.counter;
@@ -67,8 +75,8 @@ pub(crate) fn read_names<'a>(
     Ok(names)
 }
 
-/// Returns the names before the first line: those that ten earlier readings of the source find. With each reading, one
-/// more reference to a later line can be followed.
+/// Returns the names before the first line: those that ten earlier readings of the source find, and the channels. With
+/// each reading, one more reference to a later line can be followed.
 #[tactic(auto, unfolding(crate::specs::Source::first_names))]
 pub(crate) fn first_names<'a>(
     alloc: Global,
@@ -76,7 +84,8 @@ pub(crate) fn first_names<'a>(
 ) -> Result<Names<'a>, AllocError>
     ensures { IfOk result (λ names. naming_of names ≡ first_names (map (λ line. line.text.now) lines.now)) }
 {
-    found_after(alloc, 10, lines)
+    let names = found_after(alloc, 10, lines)?;
+    note_channels(names, lines)
 }
 
 #[tactic(auto, unfolding(crate::specs::Source::found_after))]
@@ -99,13 +108,13 @@ fn found_after<'a>(
 #[tactic(auto, unfolding(crate::specs::Source::found_from))]
 fn found_again<'a>(known: Names<'a>, lines: &[SourceLine<'a>]) -> Result<Names<'a>, AllocError>
     ensures { IfOk result (λ found. given_of found
-        ≡ found_from (naming_of known.entry) first_cursor (map (λ line. line.text.now) lines.now)) }
+        ≡ found_from (naming_of known.entry) first_counter (map (λ line. line.text.now) lines.now)) }
 {
     let mut names = known;
     let mut counter = LocationCounter::new();
     let mut rest = lines;
     while let [line, after @ ..] = rest {
-        match line_labelled(&names, counter, line) {
+        match define_label(&names, counter, line) {
             Ok(next) => {
                 note_label(&mut names, line, next.place)?;
                 counter = next.counter;
@@ -124,7 +133,7 @@ pub(crate) fn note_label<'a>(
     place: Option<Location>,
 ) -> Result<(), AllocError>
     ensures { OnOk result (naming_of names.new
-        ≡ naming_after (naming_of names.old) (label_of (plain_line line.now.text.now)) place) }
+        ≡ naming_after (naming_of names.old) (line_label (plain_line line.now.text.now)) place) }
 {
     match (line.label, place) {
         (Some(label), Some(place)) => names.add(label, place),
@@ -133,14 +142,61 @@ pub(crate) fn note_label<'a>(
 }
 
 /// Returns the location of a line's name, if it has one, and where the next line goes.
-#[tactic(auto, unfolding(crate::specs::Source::line_labelled, crate::specs::Body::spelled))]
-pub(crate) fn line_labelled(
+#[tactic(auto, unfolding(crate::specs::Source::define_label))]
+pub(crate) fn define_label(
     names: &Names,
     counter: LocationCounter,
     line: &SourceLine,
 ) -> Result<Labelled, SourceFault>
     requires { IsAt counter.at }
-    ensures labelled { result ≡ line_labelled (naming_of names.now) counter (plain_line line.now.text.now) }
+    ensures labelled { result ≡ define_label (naming_of names.now) counter (plain_line line.now.text.now) }
+    ensures range { IfOk result (λ next. IsAt next.counter.at) }
+    ensures within { IfOk result (λ next. IfSome next.place IsWithin) }
+{
+    let role = role_of(&counter.due, line);
+    if let Role::Basic = role {
+        return basic_labelled(names, counter, line);
+    }
+    spoken_labelled(
+        names,
+        counter,
+        line,
+        due_behind(&counter.due, role, line.words),
+    )
+}
+
+/// Reads an interpretive line, behind which these operands are due.
+fn spoken_labelled(
+    names: &Names,
+    counter: LocationCounter,
+    line: &SourceLine,
+    due: Pending,
+) -> Result<Labelled, SourceFault>
+    requires { IsAt counter.at }
+    ensures labelled { result ≡ spoken_labelled (naming_of names.now) counter (plain_line line.now.text.now) due }
+    ensures range { IfOk result (λ next. IsAt next.counter.at) }
+    ensures within { IfOk result (λ next. IfSome next.place IsWithin) }
+{
+    if has_other_byte(line.plain) {
+        return Err(SourceFault::Listed(LineFault::NotText));
+    }
+    let next = counter_after(counter, LineKind::Word)?;
+    let place = place_labelled(names, counter, LineKind::Word, line.label)?;
+    Ok(Labelled {
+        counter: next.due_there(due),
+        place,
+    })
+}
+
+/// Reads a line of the basic language or of a listing.
+#[tactic(auto, unfolding(crate::specs::Body::spelled))]
+fn basic_labelled(
+    names: &Names,
+    counter: LocationCounter,
+    line: &SourceLine,
+) -> Result<Labelled, SourceFault>
+    requires { IsAt counter.at }
+    ensures labelled { result ≡ basic_labelled (naming_of names.now) counter (plain_line line.now.text.now) }
     ensures range { IfOk result (λ next. IsAt next.counter.at) }
     ensures within { IfOk result (λ next. IfSome next.place IsWithin) }
 {
@@ -156,20 +212,13 @@ pub(crate) fn line_labelled(
     let Some(operation) = &line.operation else {
         return Err(SourceFault::UnknownOrder);
     };
-    let kind = shape_of(names, operation)?;
-    let next = cursor_after(counter, kind)?;
+    let kind = kind_of(names, operation)?;
+    let next = counter_after(counter, kind)?;
     let place = place_labelled(names, counter, kind, line.label)?;
     Ok(Labelled {
         counter: next,
         place,
     })
-}
-
-/// Returns whether a line names another file to read.
-fn is_include(line: &[u8]) -> bool
-    ensures { result ≡ is_include line.now }
-{
-    matches!(line, [b'$', ..])
 }
 
 /// Reads a listing line, which has no name.
@@ -195,15 +244,18 @@ fn place_labelled(
     label: Option<&[u8]>,
 ) -> Result<Option<Location>, SourceFault>
     requires at { IsAt counter.at }
-    requires kind { IsShape kind }
-    requires room { IsOk (cursor_after counter kind) }
+    requires kind { IsKind kind }
+    requires room { IsOk (counter_after counter kind) }
     ensures place { result ≡ place_labelled (naming_of names.now) counter kind
         (option_map (λ label. label.now) label.entry) }
     ensures within { IfOk result (λ place. IfSome place IsWithin) }
 {
     let Some(label) = label else {
         return match kind {
-            LineKind::StandsFor(_) | LineKind::StandsHere => Err(SourceFault::MisplacedName),
+            LineKind::StandsFor(_)
+            | LineKind::StandsHere
+            | LineKind::StandsBeside(_)
+            | LineKind::StandsApart(_) => Err(SourceFault::MisplacedName),
             _ => Ok(None),
         };
     };
@@ -220,8 +272,8 @@ fn place_labelled(
 #[tactic(auto, using(crate::proofs::Within::room_within, crate::proofs::Within::cells_within))]
 fn label_place(counter: LocationCounter, kind: LineKind) -> Result<Option<Location>, SourceFault>
     requires at { IsAt counter.at }
-    requires kind { IsShape kind }
-    requires room { IsOk (cursor_after counter kind) }
+    requires kind { IsKind kind }
+    requires room { IsOk (counter_after counter kind) }
     ensures place { result ≡ label_place counter kind }
     ensures within { IfOk result (λ place. IfSome place IsWithin) }
 {
@@ -229,7 +281,10 @@ fn label_place(counter: LocationCounter, kind: LineKind) -> Result<Option<Locati
         LineKind::Word | LineKind::Pair | LineKind::Cells(_) => Ok(Some(counter.location())),
         LineKind::Range(first, _) => Ok(Some(Location::Erasable(first))),
         LineKind::StandsFor(place) => Ok(Some(place)),
-        LineKind::StandsHere => here_place(counter),
+        LineKind::StandsHere | LineKind::Ebank | LineKind::Sbank => here_place(counter),
+        LineKind::StandsBeside(by) => Ok(Some(location_beside(counter.location(), by)?)),
+        LineKind::StandsApart(from) => Ok(Some(location_apart(counter.location(), from)?)),
+        LineKind::Moves(place) => Ok(Some(place)),
         LineKind::Nothing => Ok(None),
         _ => Err(SourceFault::MisplacedName),
     }

@@ -1,15 +1,19 @@
 //! The second pass over a source: assembles the words of its lines.
 ghost use Rattle.std.specs.Prelude.{◌≡◌, ◌≢◌, ◌<◌, Ok, Err, IfOk, IfErr, IfSome, OnOk, map};
 ghost use Rattle.agc_store.specs.Places.{fixed_words, fixed_fixed};
+ghost use Rattle.agc_asm.specs.FaultText.{later_fault};
 ghost use Rattle.agc_asm.specs.Name.{naming_of};
-ghost use Rattle.agc_asm.specs.LineKind.{IsShape, shape_of};
+ghost use Rattle.agc_asm.specs.LineKind.{IsKind, kind_of};
 ghost use Rattle.agc_asm.specs.Source.{
   IsPlaced,
   IsState,
   ebank_parsed,
   two_added,
   first_state,
-  line_woven,
+  assemble_line,
+  basic_woven,
+  fault_before,
+  leaves_due,
   listed_woven,
   no_word,
   pair_placed,
@@ -26,10 +30,14 @@ ghost use Rattle.agc_asm.specs.Source.{
   pair_at_counter,
   word_in_cell,
   pair_in_cells,
+  spoken_at,
+  spoken_in_rope,
+  spoken_state,
 };
-ghost use Rattle.agc_asm.specs.LineKind.{cursor_after};
+ghost use Rattle.agc_asm.specs.LineKind.{counter_after};
 ghost use Rattle.agc_asm.specs.LocationCounter.{room_at, IsAt, after_cells};
-ghost use Rattle.agc_asm.specs.Body.{plain_line, tokens};
+ghost use Rattle.agc_asm.specs.Body.{plain_line, spelled, tokens};
+ghost use Rattle.agc_asm.specs.Interpretive.{due_behind};
 ghost use Rattle.agc_asm.specs.Encode.{cell_in, place_in};
 ghost use Rattle.agc_asm.specs.Operand.{location_in};
 ghost use Rattle.agc_listing.specs.Text.{parsed_by};
@@ -37,18 +45,21 @@ ghost use Rattle.agc_listing.specs.Line.{line_named};
 ghost use Rattle.agc_asm.specs.declared.fault.AssemblyFault.TheVariants.{Memory};
 
 use crate::encode::{
-    Banks, Site, banks_after, cell_in, is_banked, pair_meaning, place_in, superbank, word_meaning,
+    Banks, Site, banks_after, cell_in, encode_pair, encode_word, is_banked, place_in, superbank,
     writes_order,
 };
 use crate::fault::{AssemblyFault, SourceFault};
-use crate::line_kind::{LineKind, cursor_after, shape_of};
+use crate::interpretive_word::spoken_meaning;
+use crate::line_kind::{LineKind, counter_after, kind_of};
 use crate::location_counter::{At, LocationCounter};
 use crate::names::Names;
 use crate::operand::location_in;
 use crate::operation::Operation;
+use crate::role::{Role, due_behind, role_of};
 use crate::source_line::SourceLine;
 use agc_listing::{PlacedWord, RopeBuilder, next_is_extracode, read_line};
 use agc_store::place::{ERASABLE_BANK_SIZE, FIXED_FIXED};
+use agc_word::Narrow;
 use std::alloc::Global;
 
 /// The state after the lines so far: where the next one goes, whether an extracode is expected there, and the banks for
@@ -87,7 +98,7 @@ pub(crate) struct Step {
 }
 
 /// Returns the words of a source with these names, or its first fault in the second pass.
-#[tactic(auto, unfolding(crate::specs::Source::words_in, crate::specs::Source::words_from))]
+#[tactic(auto, unfolding(crate::specs::Source::words_in, crate::specs::Source::words_from, crate::specs::Source::due_from))]
 pub(crate) fn read_words(
     alloc: Global,
     names: &Names,
@@ -96,7 +107,7 @@ pub(crate) fn read_words(
     ensures words { IfOk result (λ builder. words_in (naming_of names.now) (map (λ line. line.text.now) lines.now)
         ≡ Ok builder) }
     ensures fault { IfErr result (λ why. why ≢ Memory
-        → words_in (naming_of names.now) (map (λ line. line.text.now) lines.now) ≡ Err why) }
+        → words_in (naming_of names.now) (map (λ line. line.text.now) lines.now) ≡ Err (later_fault why)) }
 {
     let mut builder = RopeBuilder::new(alloc)?;
     let mut state = State::new();
@@ -104,7 +115,7 @@ pub(crate) fn read_words(
     let mut rest = lines;
     while let [line, after @ ..] = rest {
         number += 1;
-        match line_woven(names, state, line) {
+        match assemble_line(names, state, line) {
             Ok(step) => {
                 state = step.state;
                 add_words(&mut builder, number, step)?;
@@ -113,7 +124,10 @@ pub(crate) fn read_words(
         }
         rest = after;
     }
-    Ok(builder)
+    match state.counter.due.fault_at_end(false) {
+        Some(fault) => Err(AssemblyFault::Line(number, SourceFault::Interpretive(fault))),
+        None => Ok(builder),
+    }
 }
 
 /// Adds the words of a line; a fault carries the line's number.
@@ -121,7 +135,7 @@ fn add_words(builder: &mut RopeBuilder, number: usize, step: Step) -> Result<(),
     requires { IsPlaced step }
     ensures parsed { OnOk result (two_added builder.old step.first step.second ≡ Ok builder.new) }
     ensures fault { IfErr result (λ why. why ≢ Memory
-        → reported_at number (two_added builder.old step.first step.second) ≡ Err why) }
+        → reported_at number (two_added builder.old step.first step.second) ≡ Err (later_fault why)) }
 {
     add_word(builder, number, step.first)?;
     add_word(builder, number, step.second)
@@ -135,7 +149,7 @@ fn add_word(
     requires { IfSome word (λ word. word.place < fixed_words) }
     ensures parsed { OnOk result (word_added builder.old word ≡ Ok builder.new) }
     ensures fault { IfErr result (λ why. why ≢ Memory
-        → reported_at number (word_added builder.old word) ≡ Err why) }
+        → reported_at number (word_added builder.old word) ≡ Err (later_fault why)) }
 {
     match builder.unless_named(word) {
         Ok(word) => {
@@ -147,24 +161,142 @@ fn add_word(
 }
 
 /// Assembles a line: its words with their places, and where the next line goes.
-#[tactic(auto, unfolding(crate::specs::Source::line_woven, crate::specs::Body::spelled))]
-pub(crate) fn line_woven(
+#[tactic(auto, unfolding(crate::specs::Source::assemble_line, crate::specs::Body::spelled))]
+pub(crate) fn assemble_line(
     names: &Names,
     state: State,
     line: &SourceLine,
 ) -> Result<Step, SourceFault>
     requires { IsState state }
-    ensures woven { result ≡ line_woven (naming_of names.now) state (plain_line line.now.text.now) }
+    ensures woven { result ≡ assemble_line (naming_of names.now) state (plain_line line.now.text.now) }
     ensures range { IfOk result (λ step. IsState step.state) }
     ensures placed { IfOk result IsPlaced }
 {
-    if line.is_listed {
-        return listed_woven(state, line.plain);
+    match role_of(&state.counter.due, line) {
+        Role::Basic if line.is_listed => listed_woven(state, line.plain),
+        Role::Basic => match &line.operation {
+            Some(operation) => basic_woven(names, state, operation),
+            None => Err(SourceFault::UnknownOrder),
+        },
+        role => spoken_at(names, state, role, line.words),
     }
-    let Some(operation) = &line.operation else {
-        return Err(SourceFault::UnknownOrder);
-    };
-    match shape_of(names, operation)? {
+}
+
+/// Assembles an interpretive line with these words.
+fn spoken_at(names: &Names, state: State, role: Role, words: &[u8]) -> Result<Step, SourceFault>
+    requires { IsState state }
+    ensures woven { result ≡ spoken_at (naming_of names.now) state role (tokens words.now) state.counter.at }
+    ensures range { IfOk result (λ step. IsState step.state) }
+    ensures placed { IfOk result IsPlaced }
+{
+    match state.counter.at {
+        At::Bank(_) => spoken_in_rope(names, state, role, words),
+        At::Cell(_) => {
+            spoken_meaning(
+                names,
+                u32::from(FIXED_FIXED),
+                &state.counter.due,
+                role,
+                words,
+            )?;
+            let next = state.counter.after_cells(1)?;
+            Ok(Step {
+                state: spoken_state(state, role, words, next),
+                first: None,
+                second: None,
+            })
+        }
+    }
+}
+
+/// Assembles an interpretive line in the rope.
+fn spoken_in_rope(
+    names: &Names,
+    state: State,
+    role: Role,
+    words: &[u8],
+) -> Result<Step, SourceFault>
+    requires { IsState state }
+    ensures woven { result ≡ spoken_in_rope (naming_of names.now) state role (tokens words.now)
+        (room_at state.counter state.counter.at 1) }
+    ensures range { IfOk result (λ step. IsState step.state) }
+    ensures placed { IfOk result IsPlaced }
+{
+    let place = state.counter.room(1)?;
+    let word = spoken_meaning(names, place, &state.counter.due, role, words)?;
+    Ok(Step {
+        state: spoken_state(state, role, words, state.counter.after_words(1)),
+        first: Some(PlacedWord {
+            place: place as usize,
+            word: Narrow::with_bits(word),
+        }),
+        second: None,
+    })
+}
+
+/// Returns the state behind an interpretive line.
+fn spoken_state(state: State, role: Role, words: &[u8], counter: LocationCounter) -> State
+    requires state { IsState state }
+    requires counter { IsAt counter.at }
+    ensures after { result ≡ spoken_state state (due_behind state.counter.due role (tokens words.now)) counter }
+    ensures range { IsState result }
+{
+    State {
+        counter: counter.due_there(due_behind(&state.counter.due, role, words)),
+        leads: false,
+        banks: banks_after(false, state.banks),
+    }
+}
+
+/// Assembles a line of the basic language.
+#[tactic(auto, unfolding(crate::specs::Body::spelled))]
+fn basic_woven(names: &Names, state: State, operation: &Operation) -> Result<Step, SourceFault>
+    requires { IsState state }
+    ensures woven { result ≡ basic_woven (naming_of names.now) state (tokens operation.now.body.now)
+        (kind_of (naming_of names.now) (spelled (tokens operation.now.body.now))) }
+    ensures range { IfOk result (λ step. IsState step.state) }
+    ensures placed { IfOk result IsPlaced }
+{
+    let kind = kind_of(names, operation)?;
+    if !leaves_due(kind) {
+        if let Some(fault) = state.counter.due.fault_at_end(false) {
+            return Err(SourceFault::Interpretive(fault));
+        }
+    }
+    shape_woven(names, state, operation, kind)
+}
+
+/// Returns whether a line neither writes words nor moves to another place, and so leaves what is due.
+fn leaves_due(kind: LineKind) -> bool
+    ensures { result ≡ leaves_due kind }
+{
+    matches!(
+        kind,
+        LineKind::StandsFor(_)
+            | LineKind::StandsHere
+            | LineKind::StandsBeside(_)
+            | LineKind::StandsApart(_)
+            | LineKind::Ebank
+            | LineKind::Sbank
+            | LineKind::Nothing
+    )
+}
+
+/// Assembles a line of a kind.
+#[tactic(auto, unfolding(crate::specs::Body::spelled))]
+fn shape_woven(
+    names: &Names,
+    state: State,
+    operation: &Operation,
+    kind: LineKind,
+) -> Result<Step, SourceFault>
+    requires state { IsState state }
+    requires kind { IsKind kind }
+    ensures woven { result ≡ shape_woven (naming_of names.now) state (tokens operation.now.body.now) (Ok kind) }
+    ensures range { IfOk result (λ step. IsState step.state) }
+    ensures placed { IfOk result IsPlaced }
+{
+    match kind {
         LineKind::Word => word_at_counter(names, state, operation),
         LineKind::Pair => pair_at_counter(names, state, operation),
         LineKind::Ebank => ebank_parsed(names, state, operation.rest),
@@ -251,7 +383,7 @@ fn word_at_counter(names: &Names, state: State, operation: &Operation) -> Result
     match state.counter.at {
         At::Bank(_) => word_placed(names, state, operation),
         At::Cell(_) => {
-            let word = word_meaning(names, site_in_cells(state), operation)?;
+            let word = encode_word(names, site_in_cells(state), operation)?;
             let leads = writes_order(operation) && next_is_extracode(state.leads, word);
             in_cells(state, operation, leads, state.counter.after_cells(1))
         }
@@ -268,7 +400,7 @@ fn pair_at_counter(names: &Names, state: State, operation: &Operation) -> Result
     match state.counter.at {
         At::Bank(_) => pair_placed(names, state, operation),
         At::Cell(_) => {
-            pair_meaning(names, site_in_cells(state), operation)?;
+            encode_pair(names, site_in_cells(state), operation)?;
             in_cells(state, operation, false, state.counter.after_cells(2))
         }
     }
@@ -325,7 +457,7 @@ fn word_placed(names: &Names, state: State, operation: &Operation) -> Result<Ste
         leads: state.leads,
         banks: state.banks,
     };
-    let word = word_meaning(names, site, operation)?;
+    let word = encode_word(names, site, operation)?;
     Ok(Step {
         state: State {
             counter: state.counter.after_words(1),
@@ -354,7 +486,7 @@ fn pair_placed(names: &Names, state: State, operation: &Operation) -> Result<Ste
         leads: state.leads,
         banks: state.banks,
     };
-    let pair = pair_meaning(names, site, operation)?;
+    let pair = encode_pair(names, site, operation)?;
     Ok(Step {
         state: State {
             counter: state.counter.after_words(2),
@@ -375,12 +507,12 @@ fn pair_placed(names: &Names, state: State, operation: &Operation) -> Result<Ste
 /// Assembles a line without words.
 fn no_word(state: State, kind: LineKind) -> Result<Step, SourceFault>
     requires at { IsState state }
-    requires kind { IsShape kind }
-    ensures woven { result ≡ no_word state kind (cursor_after state.counter kind) }
+    requires kind { IsKind kind }
+    ensures woven { result ≡ no_word state kind (counter_after state.counter kind) }
     ensures range { IfOk result (λ step. IsState step.state) }
     ensures placed { IfOk result IsPlaced }
 {
-    let next = cursor_after(state.counter, kind)?;
+    let next = counter_after(state.counter, kind)?;
     Ok(Step {
         state: State {
             counter: next,

@@ -1,11 +1,13 @@
 //! The lines of a source, parsed once for all passes.
 ghost use Rattle.std.specs.Prelude.{◌≡◌, [], map, option_map, unwrap_or, IfOk};
 ghost use Rattle.agc_word.specs.Text.{lines_of};
-ghost use Rattle.agc_listing.specs.Text.{are_listed, label_of, parsed_by};
-ghost use Rattle.agc_asm.specs.Body.{body_in, plain_line, tokens};
+ghost use Rattle.agc_listing.specs.Text.{are_listed, parsed_by};
+ghost use Rattle.agc_asm.specs.Body.{line_label, body_in, plain_line, tokens};
+ghost use Rattle.agc_asm.specs.Interpretive.{column_of, spoken_words};
 
 use crate::body::{cut_line, plain_line};
 use crate::operation::{Operation, operation_in};
+use crate::role::{column_of, spoken_words};
 use agc_listing::is_listed;
 use agc_word::next_line;
 use std::alloc::{AllocError, Global};
@@ -23,9 +25,15 @@ pub(crate) struct SourceLine<'a> {
     pub label: Option<&'a [u8]>,
     /// Its order or directive; `None` if it has no word there.
     pub operation: Option<Operation<'a>>,
+    /// The words by which the interpretive language reads it.
+    pub words: &'a [u8],
+    /// The column at which they begin, up to that of operands.
+    pub column: usize,
     ghost plain_read: { plain.now ≡ plain_line text.now },
     ghost listed_read: { is_listed ≡ are_listed (parsed_by (plain_line text.now)) },
-    ghost label_read: { option_map (λ label. label.now) label ≡ label_of (plain_line text.now) },
+    ghost label_read: { option_map (λ label. label.now) label ≡ line_label (plain_line text.now) },
+    ghost words_read: { tokens words.now ≡ spoken_words (plain_line text.now) },
+    ghost column_read: { column ≡ column_of (plain_line text.now) },
     ghost operation_read: { body_in (plain_line text.now) ≡ unwrap_or (option_map (λ op. tokens op.body.now) operation) [] },
 }
 
@@ -53,5 +61,7 @@ fn parse_line(text: &[u8]) -> SourceLine<'_>
         is_listed: is_listed(plain),
         label,
         operation: operation_in(body),
+        words: spoken_words(plain),
+        column: column_of(plain),
     }
 }

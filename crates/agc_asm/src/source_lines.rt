@@ -4,7 +4,7 @@ ghost use Rattle.agc_store.specs.Places.{fixed_words};
 
 use crate::fault::AssemblyFault;
 use crate::pass1::read_names;
-use crate::pass2::{State, line_woven};
+use crate::pass2::{State, assemble_line};
 use crate::source_line::parse_lines;
 use agc_listing::PlacedWord;
 use agc_store::place::FIXED_WORDS;
@@ -24,7 +24,7 @@ pub fn word_lines(alloc: Global, text: &[u8]) -> Result<Vec<usize>, AssemblyFaul
     let mut rest = lines.as_slice();
     while let [line, after @ ..] = rest {
         number += 1;
-        match line_woven(&names, state, line) {
+        match assemble_line(&names, state, line) {
             Ok(step) => {
                 state = step.state;
                 note_line(&mut found, number, step.first);
@@ -35,6 +35,45 @@ pub fn word_lines(alloc: Global, text: &[u8]) -> Result<Vec<usize>, AssemblyFaul
         rest = after;
     }
     Ok(found)
+}
+
+/// Returns the earlier line that puts a word at a place of the line with a number, if there is one and no line up to this
+/// one has another fault. Fails if out of memory.
+pub(crate) fn overlapped_line(
+    alloc: Global,
+    text: &[u8],
+    number: usize,
+) -> Result<Option<usize>, AllocError> {
+    let lines = parse_lines(alloc, text)?;
+    let names = match read_names(alloc, &lines) {
+        Ok(names) => names,
+        Err(AssemblyFault::Line(_, _) | AssemblyFault::Overlap(_, _)) => return Ok(None),
+        Err(AssemblyFault::Memory) => return Err(AllocError),
+    };
+    let mut found = no_lines(alloc, FIXED_WORDS as usize)?;
+    let mut state = State::new();
+    let mut here = 0;
+    let mut rest = lines.as_slice();
+    while let [line, after @ ..] = rest {
+        here += 1;
+        let Ok(step) = assemble_line(&names, state, line) else {
+            return Ok(None);
+        };
+        if here == number {
+            return Ok(line_at(&found, step.first).or(line_at(&found, step.second)));
+        }
+        state = step.state;
+        note_line(&mut found, here, step.first);
+        note_line(&mut found, here, step.second);
+        rest = after;
+    }
+    Ok(None)
+}
+
+/// Returns the noted line of a word's place.
+fn line_at(found: &Vec<usize>, word: Option<PlacedWord>) -> Option<usize> {
+    let line = found.get(word?.place).copied()?;
+    if line == 0 { None } else { Some(line) }
 }
 
 /// Returns no line for each place.

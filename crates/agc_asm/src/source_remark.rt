@@ -1,15 +1,19 @@
 //! Explains which word of a source line is at fault: the name in its first column, its order, or its operand.
 use crate::alias::Alias;
-use crate::body::code_of;
+use crate::body::{code_of, is_operation};
+use crate::channels::note_channels;
 use crate::fault::SourceFault;
-use crate::fault_place::{is_operation, word_at_fault};
+use crate::fault_place::{has_letter, word_at_fault};
 use crate::mnemonic::Directive;
+use crate::names::Names;
+use crate::source_line::parse_lines;
+use agc_interpretive::Operation;
 use agc_listing::{
     cut_label, is_listed, is_name, next_parsed, offset_parsed, push_file_bytes, push_quoted,
     push_quoted_then, push_subject,
 };
 use agc_order::{Basic, Extracode};
-use agc_symbols::{most_similar_name, push_unknown_name};
+use agc_symbols::{Register, most_similar_name, push_unknown_name};
 use agc_word::without_return;
 use std::alloc::{AllocError, Global};
 
@@ -33,24 +37,45 @@ pub(crate) fn push_source_why(
         SourceFault::NameTwice => push_taken(text, file, word),
         SourceFault::BadName | SourceFault::MisplacedName => push_label(text, label, order),
         SourceFault::UnknownOrder => push_no_order(alloc, text, label, order),
-        SourceFault::Interpretive => push_order(text, word, "an operation of the interpreter"),
+        SourceFault::Interpretive(_) => push_interpretive(text, order, word),
         SourceFault::NotSupported => push_order(text, word, "a directive of the flight listings"),
         SourceFault::Include | SourceFault::UnknownName => push_no_name(alloc, text, file, word),
         SourceFault::ExtracodeAlone => push_order(text, order, "an extracode"),
         SourceFault::BasicAfterExtend => push_order(text, order, "a basic order"),
         SourceFault::Full => push_order(text, order, "past the last place"),
+        SourceFault::ChannelName => push_channel_line(alloc, text, file, word),
         SourceFault::WrongMemory => push_order(text, order, "in the other memory"),
-        SourceFault::Listed(_) => push_order(text, order, "at a place that has a word already"),
-        SourceFault::BadOperand
+        SourceFault::FixedWanted => match built_in(alloc, file, word)? {
+            Some(register) => push_built_in(text, register),
+            None => push_operand(text, order, operand, word),
+        },
+        SourceFault::Listed(_)
+        | SourceFault::BadOperand
         | SourceFault::NoSuchPlace
         | SourceFault::ErasableWanted
-        | SourceFault::FixedWanted
         | SourceFault::ChannelWanted
         | SourceFault::AnotherBank
         | SourceFault::OtherOrder
         | SourceFault::BadPlace
         | SourceFault::BadNumber
         | SourceFault::OutOfRange => push_operand(text, order, operand, word),
+    }
+}
+
+/// Appends what the word at fault of an interpretive line is: an operation, an operand, or what stands behind `first`.
+fn push_interpretive(text: &mut String, first: &[u8], word: &[u8]) -> Result<(), AllocError> {
+    if word != first {
+        push_quoted(text, word)?;
+        text.push_str(" is behind ")?;
+        return push_quoted_then(text, first, "\n");
+    }
+    if is_operation(word) {
+        return push_order(text, word, "a line of the basic language");
+    }
+    let name = word.strip_suffix(b"*").unwrap_or(word);
+    match Operation::from_name(name) {
+        Some(_) => push_order(text, word, "an operation of the interpreter"),
+        None => push_order(text, word, "an operand on a line of its own"),
     }
 }
 
@@ -83,6 +108,7 @@ fn push_taken(text: &mut String, file: &[u8], name: &[u8]) -> Result<(), AllocEr
 fn push_missing(text: &mut String, label: Option<&[u8]>) -> Result<(), AllocError> {
     match label {
         Some(label) if is_operation(label) => push_first_column(text, label),
+        Some(label) if has_letter(label) => push_letter(text, label),
         _ => text.push_str("the order is missing: write it after the name\n"),
     }
 }
@@ -103,6 +129,9 @@ fn push_no_order(
     if let Some(label) = label {
         if is_operation(label) {
             return push_first_column(text, label);
+        }
+        if has_letter(label) {
+            return push_letter(text, label);
         }
     }
     let mut names = orders(alloc)?;
@@ -162,7 +191,55 @@ fn push_no_name(
         text.push_str("the line of ")?;
         return push_quoted_then(text, name, " gives it no place\n");
     }
-    push_unknown_name(alloc, text, name, "name", names.as_slice())
+    push_unknown_name(alloc, text, name, "name", names.as_slice())?;
+    push_letter_below(text, name)
+}
+
+/// Appends a line that a word has a letter O in place of a zero, if it has.
+pub(crate) fn push_letter_below(text: &mut String, word: &[u8]) -> Result<(), AllocError> {
+    if !has_letter(word) {
+        return Ok(());
+    }
+    text.push_str("    ")?;
+    push_letter(text, word)
+}
+
+/// Appends that a word has a letter O in place of a zero.
+fn push_letter(text: &mut String, word: &[u8]) -> Result<(), AllocError> {
+    push_quoted_then(text, word, " has a letter O, which looks like a zero\n")
+}
+
+/// Appends which line takes a name as a channel.
+fn push_channel_line(
+    alloc: Global,
+    text: &mut String,
+    file: &[u8],
+    name: &[u8],
+) -> Result<(), AllocError> {
+    let lines = parse_lines(alloc, file)?;
+    let names = note_channels(Names::new(alloc), &lines)?;
+    push_quoted(text, name)?;
+    let number = names.channel_line(name).unwrap_or(0);
+    writeln!(text, " is a channel in line {number}")
+}
+
+/// Returns the cell of the computer's own that a word names, if no line has this name.
+fn built_in(alloc: Global, file: &[u8], word: &[u8]) -> Result<Option<Register>, AllocError> {
+    let names = names_of(alloc, file)?;
+    if names.as_slice().iter().any(|known| *known == word) {
+        return Ok(None);
+    }
+    Ok(Register::from_name(word).filter(|register| !register.is_short()))
+}
+
+/// Appends that a name is built in, and its cell.
+fn push_built_in(text: &mut String, register: Register) -> Result<(), AllocError> {
+    push_quoted(text, register.name().as_bytes())?;
+    let cell = register.cell();
+    writeln!(
+        text,
+        " is built in, as cell {cell:04o}: CA takes it; or give a line of your own this name"
+    )
 }
 
 /// Returns the names of a source's lines, in their order.
@@ -179,7 +256,7 @@ fn name_of(line: &[u8]) -> Option<&[u8]> {
         return None;
     }
     let (label, _) = cut_label(line);
-    label.filter(|label| is_name(label))
+    label.filter(|label| is_name(label) && offset_parsed(label).is_none())
 }
 
 /// Appends what an order or directive is.

@@ -3,11 +3,10 @@ ghost use Rattle.std.specs.Prelude.{◌≡◌, ◌++◌, IfOk, Ok, OnOk};
 ghost use Rattle.agc_symbols.specs.Symbols.{names_in};
 ghost use Rattle.agc_symbols.specs.Writing.{names_text};
 ghost use Rattle.agc_asm.specs.NameLines.{label_named, labels_in, name_lines_in};
-ghost use Rattle.agc_asm.specs.Body.{plain_line};
-ghost use Rattle.agc_listing.specs.Text.{label_of};
+ghost use Rattle.agc_asm.specs.Body.{line_label, plain_line};
 
 use crate::location_counter::LocationCounter;
-use crate::pass1::{first_names, line_labelled, note_label};
+use crate::pass1::{define_label, first_names, note_label};
 use crate::source_line::{SourceLine, parse_lines};
 use agc_listing::Location;
 use agc_symbols::push_name_line;
@@ -27,7 +26,7 @@ pub fn name_lines(alloc: Global, text: &[u8]) -> Result<Vec<u8>, AllocError>
     let mut counter = LocationCounter::new();
     let mut rest = lines.as_slice();
     while let [line, after @ ..] = rest {
-        match line_labelled(&names, counter, line) {
+        match define_label(&names, counter, line) {
             Ok(next) => {
                 tell_label(alloc, &mut reported, line, next.place)?;
                 note_label(&mut names, line, next.place)?;
@@ -49,7 +48,7 @@ fn tell_label(
     place: Option<Location>,
 ) -> Result<(), AllocError>
     ensures { OnOk result
-        (reported.new.items ≡ reported.old.items ++ names_text (label_named (label_of (plain_line line.now.text.now)) place)) }
+        (reported.new.items ≡ reported.old.items ++ names_text (label_named (line_label (plain_line line.now.text.now)) place)) }
 {
     match (line.label, place) {
         (Some(label), Some(place)) => push_name_line(alloc, reported, place, label),

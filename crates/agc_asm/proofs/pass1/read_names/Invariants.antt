@@ -1,12 +1,12 @@
 use Rattle.std.specs.Prelude.{◌≡◌, ◌+◌, ◌≤◌, length, map}
-use Rattle.agc_asm.specs.LocationCounter.{IsAt, first_cursor}
+use Rattle.agc_asm.specs.LocationCounter.{IsAt, first_counter}
 use Rattle.agc_asm.specs.Name.{naming_of}
 use Rattle.agc_asm.specs.Source.{first_names, names_from}
 use Rattle.agc_asm.proofs.pass1.read_names.Given as goal
 
 abbrev pub invariant-loop-rest : goal.invariant-loop-rest
 invariant-loop-rest l = record {
-  same : names_from (l.number + 1) (naming_of l.names) l.counter (map (λ line. line.text.now) l.rest) ≡ names_from 1 (first_names (map (λ line. line.text.now) l.fn.lines)) first_cursor (map (λ line. line.text.now) l.fn.lines);
+  same : names_from (l.number + 1) (naming_of l.names) l.counter (map (λ line. line.text.now) l.rest) ≡ names_from 1 (first_names (map (λ line. line.text.now) l.fn.lines)) first_counter (map (λ line. line.text.now) l.fn.lines);
   count : l.number + length l.rest ≤ length l.fn.lines;
   at : IsAt l.counter.at;
 }
