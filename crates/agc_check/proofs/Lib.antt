@@ -9,3 +9,5 @@ pub mod RightParity
 pub mod Sums
 pub mod WordReadings
 pub mod Repaired
+pub mod Merged
+pub mod CheckWords

@@ -31,7 +31,7 @@ value_of false (pos zero) = refl
 value_of sign (pos (suc n)) = refl
 value_of sign (negsuc n) = refl
 
-sum_value : (x y : Number) → value (word_sum x y) ≡ carried_around (value x +ℤ value y)
+pub sum_value : (x y : Number) → value (word_sum x y) ≡ carried_around (value x +ℤ value y)
 unfolding word_sum
 sum_value x y = value_of _ (carried_around (value x +ℤ value y))
 
@@ -41,11 +41,11 @@ minus_value true zero = refl
 minus_value true (suc n) = refl
 minus_value false n = refl
 
-low_value : (minus : Bool) (magnitude : ℕ) → magnitude < 2 ^ 14 → negsuc 16383 <ℤ value (record { minus = minus; magnitude = magnitude })
+pub low_value : (minus : Bool) (magnitude : ℕ) → magnitude < 2 ^ 14 → negsuc 16383 <ℤ value (record { minus = minus; magnitude = magnitude })
 low_value true magnitude h = omega (arith, ints)
 low_value false magnitude h = omega (arith, ints)
 
-high_value : (minus : Bool) (magnitude : ℕ) → magnitude < 2 ^ 14 → value (record { minus = minus; magnitude = magnitude }) <ℤ pos 16384
+pub high_value : (minus : Bool) (magnitude : ℕ) → magnitude < 2 ^ 14 → value (record { minus = minus; magnitude = magnitude }) <ℤ pos 16384
 high_value true magnitude h = omega (arith, ints)
 high_value false magnitude h = omega (arith, ints)
 

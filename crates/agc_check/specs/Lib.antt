@@ -4,10 +4,13 @@ pub mod RopeReport
 pub mod Report
 pub mod KeyReport
 pub mod BankSum
+pub mod CheckWord
 pub mod FileWords
 pub mod Parity
 pub mod Patch
 pub mod Reading
 pub mod Legal
+pub mod Modules
 pub mod Repair
 pub mod WordDiff
+pub mod Merge

@@ -1,5 +1,5 @@
 -- The places at which two ropes differ, and blocks of words that moved.
-use Rattle.std.specs.Prelude.{◌≡◌, ◌≢◌, ℕ, ◌+◌, ◌≤◌, ◌<◌, ◌==◌, Bool, not, List, filter}
+use Rattle.std.specs.Prelude.{◌≡◌, ◌≢◌, ℕ, ◌+◌, ◌≤◌, ◌<◌, ◌==◌, Bool, not, ◌&&◌, List, filter, length}
 use Rattle.std.specs.List.{range_with_len}
 use Rattle.agc_word.specs.Number.{Number, pattern_of}
 use Rattle.agc_store.specs.Memory.{fixed_at}
@@ -21,8 +21,13 @@ pub record IsSameRun (first second : List Number) (source target count : ℕ) : 
   pub in_second : target + count ≤ fixed_words
   pub same : (k : ℕ) → k < count → pattern_of 15 (fixed_at (source + k) first) ≡ pattern_of 15 (fixed_at (target + k) second)
 
--- a block of at least so many words of one rope that is at another place in the other
+-- how many words of a block are not at their own place in both ropes, neither before the move nor after it
+unfoldable pub moved_words : List Number → List Number → MovedBlock → ℕ
+moved_words first second block =
+    length (filter (λ k. differs_at first second (block.source + k) && differs_at first second (block.target + k)) (range_with_len 0 block.count))
+
+-- a block of one rope that is at another place in the other, at least so many words of it moved
 pub record IsMoved (first second : List Number) (least : ℕ) (block : MovedBlock) : Type 0 where
-  pub long : least ≤ block.count
+  pub moved : least ≤ moved_words first second block
   pub elsewhere : block.source ≢ block.target
   pub run : IsSameRun first second block.source block.target block.count

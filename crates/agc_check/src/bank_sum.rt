@@ -48,7 +48,8 @@ pub struct BankSum {
 #[tactic(auto, unfolding(crate::specs::BankSum::sum_of_bank, crate::specs::BankSum::sum_at))]
 pub fn sum_in_bank(store: &Store, bank: u8) -> Option<BankSum>
     requires { bank < fixed_banks }
-    ensures { result ≡ sum_of_bank store.now.fixed bank }
+    ensures sum { result ≡ sum_of_bank store.now.fixed bank }
+    ensures range { IfSome result (λ sum. (sum.bank ≡ bank) × (sum.last < fixed_bank_size)) }
 {
     let last = last_used(store, bank, FIXED_BANK_SIZE)?;
     let before = sum_of_first(store, bank, last);
@@ -64,7 +65,7 @@ pub fn sum_in_bank(store: &Store, bank: u8) -> Option<BankSum>
 }
 
 #[tactic(auto, unfolding(crate::specs::BankSum::bank_sum))]
-fn sum_of_bank(store: &Store, bank: u8) -> Narrow
+pub(crate) fn sum_of_bank(store: &Store, bank: u8) -> Narrow
     requires { bank < fixed_banks }
     ensures { result ≡ bank_sum store.now.fixed bank }
 {

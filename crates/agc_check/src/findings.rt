@@ -1,25 +1,21 @@
 //! Reports what a restorer wants to know of a rope file: words with wrong parity and their repairs, how well each reading
 //! fits, the sums of the banks, and words that nothing reaches. Every remark says how sure it is.
-ghost use Rattle.std.specs.Prelude.{◌≡◌, ◌<◌, ◌≤◌, ◌%◌, length};
-ghost use Rattle.agc_store.specs.Places.{fixed_banks, fixed_words};
-
 use crate::bank_sum::{BankSum, SumFit, sum_in_bank};
-use crate::legal::is_extracode_at;
+use crate::bit_change::BitChange;
+use crate::damage::{Damage, MOST_REPAIRED, damage_of};
 use crate::parity::{BadWord, bad_words, damaged_store};
 use crate::reading::{ParityBit, Reading};
 use crate::repair::{Repair, repairs};
+use crate::repair_lines::push_repair;
 use crate::rope_bytes::file_words;
 use crate::scores::{Score, score_readings};
-use agc_listing::{push_order, push_rope_place, read_line};
+use agc_listing::{push_rope_place, read_line};
 use agc_store::place::{FIXED_BANKS, FIXED_WORDS, place_of};
 use agc_store::{RopeForm, Store};
 use agc_word::{Narrow, next_line};
 use std::alloc::{AllocError, Global};
 
-/// The most words with wrong parity whose repairs are searched for.
-const MOST_BAD: usize = 20;
-
-/// The most repairs of a word that a report prints.
+/// The most repairs of a word that a report prints, apart from those with which the sum of the bank fits.
 const MOST_REPAIRS: usize = 4;
 
 /// Appends the findings on a rope file, if it has whole words and not more than a rope.
@@ -27,6 +23,7 @@ pub fn push_findings(
     alloc: Global,
     text: &mut String,
     form: RopeForm,
+    is_placed: bool,
     file: &[u8],
 ) -> Result<(), AllocError> {
     if file.is_empty() || file.len() % 2 == 1 || file.len() > 2 * FIXED_WORDS as usize {
@@ -34,10 +31,15 @@ pub fn push_findings(
     }
     let words = file_words(alloc, file)?;
     let store = damaged_store(alloc, form, file)?;
-    if form == RopeForm::Parity {
-        push_bad_words(alloc, text, &store, words.as_slice())?;
-    }
-    push_readings(alloc, text, form, words.as_slice())?;
+    let wrong = match form {
+        RopeForm::Classic => Vec::new(alloc),
+        RopeForm::Parity => bad_words(alloc, words.as_slice())?,
+    };
+    let damage = damage_of(words.as_slice(), wrong.as_slice());
+    push_bad_words(alloc, text, &store, is_placed, wrong.as_slice(), damage)?;
+    let is_settled = damage == Damage::Words && are_sums_right(&store);
+    let readings = score_readings(alloc, words.as_slice())?;
+    push_readings(text, form, is_placed, is_settled, readings.as_slice())?;
     for bank in 0..FIXED_BANKS {
         if let Some(sum) = sum_in_bank(&store, bank) {
             push_sum(text, sum)?;
@@ -46,113 +48,107 @@ pub fn push_findings(
     Ok(())
 }
 
+/// Returns whether the sums of all used banks are right, and one of them is its bank's number: in an inverted file all may
+/// be complements.
+fn are_sums_right(store: &Store) -> bool {
+    let mut has_number = false;
+    for bank in 0..FIXED_BANKS {
+        if let Some(sum) = sum_in_bank(store, bank) {
+            if sum.fit == SumFit::Neither {
+                return false;
+            }
+            has_number = has_number || sum.fit == SumFit::Number && bank != 0;
+        }
+    }
+    has_number
+}
+
 /// Appends the words with wrong parity, each with its most plausible repairs.
 fn push_bad_words(
     alloc: Global,
     text: &mut String,
     store: &Store,
-    words: &[u16],
+    is_placed: bool,
+    wrong: &[BadWord],
+    damage: Damage,
 ) -> Result<(), AllocError> {
-    let bad = bad_words(alloc, words)?;
-    let count = bad.len();
+    let count = wrong.len();
     if count == 0 {
         return Ok(());
     }
     writeln!(text, "words with wrong parity: {count} (certain)")?;
-    for bad in bad.as_slice().iter().take(MOST_BAD) {
-        push_bad_word(alloc, text, store, *bad)?;
+    match damage {
+        Damage::Words => {
+            for bad in wrong.iter().take(MOST_REPAIRED) {
+                if bad.place < FIXED_WORDS as usize {
+                    let found = repairs(alloc, store, is_placed, wrong, *bad)?;
+                    push_bad_word(text, store, *bad, found.as_slice())?;
+                }
+            }
+            if count > MOST_REPAIRED {
+                writeln!(text, "    .. the first {MOST_REPAIRED} are shown")?;
+            }
+            Ok(())
+        }
+        Damage::Stuck(bit) => {
+            text.push_str("    ")?;
+            push_stuck(text, bit)?;
+            text.push_str(" (likely); repair prints the words\n")
+        }
+        Damage::Layout => text.push_str(
+            "    more than one word in ten: the file has another layout, or is not a rope (likely)\n",
+        ),
     }
-    if count > MOST_BAD {
-        writeln!(text, "    .. the first {MOST_BAD} are shown")?;
-    }
-    Ok(())
 }
 
-/// Appends a word with wrong parity and its most plausible repairs that are legal orders.
+/// Appends that a bit is stuck. Bit 0 of sixteen is the parity bit, and the others have the numbers of a word's bits.
+pub fn push_stuck(text: &mut String, bit: u32) -> Result<(), AllocError> {
+    if bit == 0 {
+        text.push_str("the parity bit is the same in all of them: it is stuck")
+    } else {
+        write!(text, "bit {bit} is the same in all of them: it is stuck")
+    }
+}
+
+/// Appends a word with wrong parity, and its repairs with which the sum of its bank fits, or up to four that are legal
+/// orders.
 fn push_bad_word(
-    alloc: Global,
     text: &mut String,
     store: &Store,
     bad: BadWord,
+    found: &[Repair],
 ) -> Result<(), AllocError> {
-    if bad.place >= FIXED_WORDS as usize {
-        return Ok(());
-    }
-    let found = repairs(alloc, store, [bad].as_slice())?;
     let (word, parity) = (Narrow::with_bits(bad.word / 2), bad.word % 2);
     text.push_str("    ")?;
     push_rope_place(text, bad.place)?;
     write!(text, " {word} parity bit {parity}; with one bit changed")?;
-    let legal = found.as_slice().iter().filter(|repair| repair.is_legal);
-    for repair in legal.take(MOST_REPAIRS) {
-        text.push_str(", ")?;
-        push_repair(text, store, *repair)?;
+    let mut shown = 0usize;
+    for repair in found {
+        let fits = repair.plausibility >= 8;
+        if fits || repair.is_legal && shown < MOST_REPAIRS {
+            shown = shown.saturating_add(1);
+            text.push_str(", ")?;
+            if repair.place < FIXED_WORDS as usize {
+                push_repair(text, store, *repair)?;
+            }
+        }
     }
     text.push_str("\n")
 }
 
-/// Appends the word and the order of a repair, and how sure it is.
-fn push_repair(text: &mut String, store: &Store, repair: Repair) -> Result<(), AllocError> {
-    if repair.place >= FIXED_WORDS as usize {
-        return Ok(());
-    }
-    let extracode = is_extracode_at(store, repair.place);
-    let (word, sureness) = (repair.word, sureness_of(repair));
-    write!(text, "{word} ")?;
-    push_order(text, extracode, word)?;
-    write!(text, " ({sureness})")
-}
-
-/// Returns how sure a repair is.
-fn sureness_of(repair: Repair) -> &'static str {
-    match repair.plausibility {
-        8.. => "sure: the bank's sum fits",
-        6..8 => "likely",
-        4..6 => "possible",
-        _ => "unlikely",
-    }
-}
-
-/// Appends single-bit repairs of the first twenty words with wrong parity as lines of a patch: up to `most` for each
-/// word, the most plausible ones first. Returns the number of words with wrong parity.
-pub fn push_repairs(
-    alloc: Global,
-    text: &mut String,
-    file: &[u8],
-    most: usize,
-) -> Result<usize, AllocError>
-    requires { length file.now % 2 ≡ 0 }
-{
-    let words = file_words(alloc, file)?;
-    let store = damaged_store(alloc, RopeForm::Parity, file)?;
-    let bad = bad_words(alloc, words.as_slice())?;
-    for bad in bad.as_slice().iter().take(MOST_BAD) {
-        if bad.place >= FIXED_WORDS as usize {
-            continue;
-        }
-        let found = repairs(alloc, &store, [*bad].as_slice())?;
-        for repair in found.as_slice().iter().take(most) {
-            push_rope_place(text, bad.place)?;
-            text.push_str(" ")?;
-            push_repair(text, &store, *repair)?;
-            text.push_str("\n")?;
-        }
-    }
-    Ok(bad.len())
-}
-
-/// Appends how well the given form fits, and another reading if it fits better.
+/// Appends how well the given form fits, and another reading if it fits better, unless the given one is settled by the
+/// sums of the banks.
 fn push_readings(
-    alloc: Global,
     text: &mut String,
     form: RopeForm,
-    words: &[u16],
+    is_placed: bool,
+    is_settled: bool,
+    scores: &[Score],
 ) -> Result<(), AllocError> {
-    let scores = score_readings(alloc, words)?;
     let mut given = None;
     let mut best: Option<Score> = None;
-    for score in scores.as_slice() {
-        if is_of_form(score.reading, form) {
+    for score in scores {
+        if is_of_form(*score, form) {
             given = Some(*score);
         }
         if score.points > points(best) {
@@ -164,7 +160,9 @@ fn push_readings(
     };
     push_score(text, given)?;
     match best {
-        Some(best) if best.points > given.points => push_better(text, given, best),
+        Some(best) if best.points > given.points && !is_settled => {
+            push_better(text, is_placed, given, best)
+        }
         Some(_) => Ok(()),
         None => text.push_str("    no reading looks like a program (likely)\n"),
     }
@@ -177,20 +175,24 @@ fn points(score: Option<Score>) -> usize {
     }
 }
 
-/// Returns whether a reading is that of a form.
-fn is_of_form(reading: Reading, form: RopeForm) -> bool {
+/// Returns whether a score is that of a form.
+fn is_of_form(score: Score, form: RopeForm) -> bool {
     let parity = match form {
         RopeForm::Classic => ParityBit::Unused,
         RopeForm::Parity => ParityBit::Last,
     };
-    !reading.is_swapped && reading.order == form && reading.parity == parity
+    let reading = score.reading;
+    score.change == BitChange::Nothing
+        && !reading.is_swapped
+        && reading.order == form
+        && reading.parity == parity
 }
 
 /// Appends how well a reading fits.
 fn push_score(text: &mut String, score: Score) -> Result<(), AllocError> {
     let (bits, legal, reached) = (score.bits, score.reach.legal, score.reach.reached);
     text.push_str("read as ")?;
-    push_reading(text, score.reading)?;
+    push_reading(text, score.reading, score.change)?;
     let what = match score.reading.parity {
         ParityBit::Unused => "unused bits are 0",
         ParityBit::Last | ParityBit::First => "parity bits are right",
@@ -210,9 +212,14 @@ fn push_score(text: &mut String, score: Score) -> Result<(), AllocError> {
 }
 
 /// Appends a reading that fits better than the given one, and how sure that is.
-fn push_better(text: &mut String, given: Score, best: Score) -> Result<(), AllocError> {
+fn push_better(
+    text: &mut String,
+    is_placed: bool,
+    given: Score,
+    best: Score,
+) -> Result<(), AllocError> {
     let twice = given.points.saturating_mul(2).saturating_add(8);
-    let sure = if best.points > twice {
+    let sure = if is_placed && best.points > twice {
         "sure"
     } else {
         "likely"
@@ -222,7 +229,11 @@ fn push_better(text: &mut String, given: Score, best: Score) -> Result<(), Alloc
 }
 
 /// Appends the name of a reading, as `convert` takes it.
-pub fn push_reading(text: &mut String, reading: Reading) -> Result<(), AllocError> {
+pub fn push_reading(
+    text: &mut String,
+    reading: Reading,
+    change: BitChange,
+) -> Result<(), AllocError> {
     text.push_str(match (reading.order, reading.parity) {
         (RopeForm::Classic, ParityBit::Unused) => "classic",
         (RopeForm::Classic, ParityBit::Last) => "classic-parity",
@@ -234,7 +245,12 @@ pub fn push_reading(text: &mut String, reading: Reading) -> Result<(), AllocErro
     if reading.is_swapped {
         text.push_str(" --swap")?;
     }
-    Ok(())
+    text.push_str(match change {
+        BitChange::Nothing => "",
+        BitChange::Inverted => " --bits inverted",
+        BitChange::WordInverted => " --bits word-inverted",
+        BitChange::Reversed => " --bits reversed",
+    })
 }
 
 /// Appends the sum of a bank, and the last words that would make it fit.

@@ -79,7 +79,7 @@ fn bank_count(store: &Store) -> usize
 
 /// Returns whether a bank has a word that is not +0.
 #[tactic(auto, unfolding(crate::specs::Holdings::has_words))]
-fn has_words(store: &Store, bank: usize) -> bool
+pub(crate) fn has_words(store: &Store, bank: usize) -> bool
     requires { bank < fixed_banks }
     ensures { result ≡ has_words store.now.fixed bank }
 {

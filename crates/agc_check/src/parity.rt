@@ -1,9 +1,9 @@
 //! Finds the words of a rope file whose parity is wrong, and makes their parity bits right.
 ghost use Rattle.std.specs.Prelude.{◌≡◌, ℕ, ◌<◌, ◌≤◌, ◌*◌, ◌/◌, ◌%◌, IfOk, None, length, map, get_or};
 ghost use Rattle.agc_store.specs.Places.{fixed_words};
-ghost use Rattle.agc_store.specs.RopeFile.{file_word, is_bad_parity, rope_fault_of};
+ghost use Rattle.agc_store.specs.RopeFile.{file_word, is_bad_parity, rope_fault_of, rope_words};
 ghost use Rattle.agc_check.specs.FileWords.{file_of_words, file_words};
-ghost use Rattle.agc_check.specs.Parity.{bad_words, with_right_parities, with_right_parity};
+ghost use Rattle.agc_check.specs.Parity.{bad_words, damaged_words, with_right_parities, with_right_parity};
 
 use crate::rope_bytes::{file_of_words, file_words};
 use agc_store::{Rope, RopeForm, Store};
@@ -101,17 +101,24 @@ pub fn right_words(alloc: Global, words: &[u16]) -> Result<Vec<u16>, AllocError>
 }
 
 /// Returns the memory with a rope file whose parity bits are made right. Fails if out of memory.
-pub(crate) fn damaged_store(alloc: Global, form: RopeForm, file: &[u8]) -> Result<Store, AllocError>
+pub fn damaged_store(alloc: Global, form: RopeForm, file: &[u8]) -> Result<Store, AllocError>
     requires { length file.now % 2 ≡ 0 }
+    ensures { IfOk result (λ store. store.fixed ≡ damaged_words form file.now) }
 {
-    let rope = match form {
-        RopeForm::Classic => Rope::read(alloc, file),
+    match form {
+        RopeForm::Classic => store_of_file(alloc, form, file),
         RopeForm::Parity => {
             let right = right_parity(alloc, file)?;
-            Rope::read_as(alloc, form, right.as_slice())
+            store_of_file(alloc, form, right.as_slice())
         }
-    };
-    match rope {
+    }
+}
+
+#[tactic(auto, unfolding(agc_store::specs::Cells::start_memory))]
+fn store_of_file(alloc: Global, form: RopeForm, file: &[u8]) -> Result<Store, AllocError>
+    ensures { IfOk result (λ store. store.fixed ≡ rope_words form file.now) }
+{
+    match Rope::read_as(alloc, form, file) {
         Ok(rope) => Ok(Store::new(rope)),
         Err(_) => Err(AllocError),
     }

@@ -48,7 +48,7 @@ fn with_words(
 
 /// Writes a word into the words of a file, which grow with zeros as far as the word needs.
 #[tactic(auto, unfolding(crate::specs::Patch::with_word))]
-fn put_word(words: &mut Vec<u16>, form: RopeForm, named: &PlacedWord) -> Result<(), AllocError>
+pub fn put_word(words: &mut Vec<u16>, form: RopeForm, named: &PlacedWord) -> Result<(), AllocError>
     requires { named.now.place < fixed_words }
     ensures { OnOk result (words.new.items ≡ with_word form words.old.items named.now) }
 {

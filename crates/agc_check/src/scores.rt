@@ -3,7 +3,8 @@
 ghost use Rattle.std.specs.Prelude.{◌≤◌, length};
 ghost use Rattle.agc_store.specs.Places.{fixed_words};
 
-use crate::parity::{damaged_store, is_bad_parity};
+use crate::bit_change::{BitChange, undo_bit_change};
+use crate::parity::{damaged_store, is_bad_parity, word_at};
 use crate::reading::{ParityBit, Reading, convert};
 use crate::rope_bytes::file_of_words;
 use crate::walk::{Reach, follow_orders};
@@ -11,10 +12,20 @@ use agc_store::RopeForm;
 use agc_store::place::FIXED_WORDS;
 use std::alloc::{AllocError, Global};
 
+/// The changes of bits that are tried.
+const CHANGES: [BitChange; 4] = [
+    BitChange::Nothing,
+    BitChange::Inverted,
+    BitChange::WordInverted,
+    BitChange::Reversed,
+];
+
 /// How well a reading fits the words of a file.
 #[derive(Clone, Copy, Debug, PartialEq, Eq)]
 pub struct Score {
     pub reading: Reading,
+    /// The change of bits that is undone first.
+    pub change: BitChange,
     /// Per cent of the words that are not 0 whose parity is right, or whose unused bit is 0.
     pub bits: usize,
     /// What is reached in the rope that the file holds in this reading.
@@ -24,7 +35,7 @@ pub struct Score {
     pub points: usize,
 }
 
-/// Returns the score of each of the twelve readings of a file's words. The words past the last of a rope are left out.
+/// Returns the score of each of the 48 readings of a file's words. The words past the last of a rope are left out.
 /// Fails if out of memory.
 pub fn score_readings(alloc: Global, words: &[u16]) -> Result<Vec<Score>, AllocError> {
     let words = if words.len() > FIXED_WORDS as usize {
@@ -34,15 +45,17 @@ pub fn score_readings(alloc: Global, words: &[u16]) -> Result<Vec<Score>, AllocE
         words
     };
     let mut scores = Vec::new(alloc);
-    for is_swapped in [false, true] {
-        for parity in [ParityBit::Unused, ParityBit::Last, ParityBit::First] {
-            for order in [RopeForm::Classic, RopeForm::Parity] {
-                let reading = Reading {
-                    order,
-                    parity,
-                    is_swapped,
-                };
-                scores.push(score_of(alloc, reading, words)?)?;
+    for change in CHANGES {
+        for is_swapped in [false, true] {
+            for parity in [ParityBit::Unused, ParityBit::Last, ParityBit::First] {
+                for order in [RopeForm::Classic, RopeForm::Parity] {
+                    let reading = Reading {
+                        order,
+                        parity,
+                        is_swapped,
+                    };
+                    scores.push(score_of(alloc, reading, change, words)?)?;
+                }
             }
         }
     }
@@ -50,7 +63,12 @@ pub fn score_readings(alloc: Global, words: &[u16]) -> Result<Vec<Score>, AllocE
 }
 
 /// Returns the score of a reading.
-fn score_of(alloc: Global, reading: Reading, words: &[u16]) -> Result<Score, AllocError>
+fn score_of(
+    alloc: Global,
+    reading: Reading,
+    change: BitChange,
+    words: &[u16],
+) -> Result<Score, AllocError>
     requires { length words.now ≤ fixed_words }
 {
     let last = match reading.parity {
@@ -62,15 +80,31 @@ fn score_of(alloc: Global, reading: Reading, words: &[u16]) -> Result<Score, All
         parity: last,
         is_swapped: false,
     };
-    let meant = convert(alloc, reading, plain, words)?;
+    let words = undo_bit_change(alloc, reading, change, words)?;
+    let meant = convert(alloc, reading, plain, words.as_slice())?;
+    let meant = without_filler(alloc, meant.as_slice())?;
     let bits = bits_right(meant.as_slice(), last);
     let reach = reach_of(alloc, meant.as_slice())?;
     Ok(Score {
         reading,
+        change,
         bits,
         reach,
         points: points_of(bits, reach),
     })
+}
+
+/// Returns the words with 0 for each that equals its two neighbours: it fills unused places, and is no order.
+fn without_filler(alloc: Global, words: &[u16]) -> Result<Vec<u16>, AllocError> {
+    (0..words.len())
+        .map(|index| {
+            let word = word_at(words, index);
+            let is_filler = index > 0
+                && word == word_at(words, index - 1)
+                && word == word_at(words, index + 1);
+            if is_filler { 0 } else { word }
+        })
+        .collect(alloc)
 }
 
 /// Returns per cent of the words that are not 0 whose last bit is as it should be.

@@ -1,7 +1,7 @@
 //! Compares the words of two ropes: the places that differ, and blocks of words that moved.
 ghost use Rattle.std.specs.Prelude.{◌≡◌, ℕ, ◌+◌, ◌≤◌, ◌<◌, All, IfOk, IfSome};
 ghost use Rattle.agc_store.specs.Places.{fixed_words};
-ghost use Rattle.agc_check.specs.WordDiff.{IsMoved, IsSameRun, differs_at, places_apart};
+ghost use Rattle.agc_check.specs.WordDiff.{IsMoved, IsSameRun, differs_at, moved_words, places_apart};
 
 use agc_store::Store;
 use agc_store::place::FIXED_WORDS;
@@ -64,8 +64,9 @@ pub(crate) fn differs_at(first: &Store, second: &Store, place: usize) -> bool
     first.fixed_at(place).bits() != second.fixed_at(place).bits()
 }
 
-/// Returns blocks of at least `least` words of the first rope that are at another place in the second, in the order
-/// of the first rope. A block begins at a place that differs. Fails if out of memory.
+/// Returns blocks of at least `least` words of the first rope that moved to another place in the second, in the order of
+/// the first rope. A block begins at a place that differs. What is at its own place in both ropes did not move. Fails if
+/// out of memory.
 pub fn moved_blocks(
     alloc: Global,
     first: &Store,
@@ -114,17 +115,33 @@ fn moved_from(
         }
         let target = at - 1;
         let count = same_run(first, second, source, target);
-        if count >= most && target != source {
+        let block = MovedBlock {
+            source,
+            target,
+            count,
+        };
+        if count >= most && target != source && moved_words(first, second, block) >= least {
             most = count.saturating_add(1);
-            longest = Some(MovedBlock {
-                source,
-                target,
-                count,
-            });
+            longest = Some(block);
         }
         at = place_in(&index.before, target);
     }
     longest
+}
+
+/// Returns how many words of a block are not at their own place in both ropes, neither before the move nor after it.
+#[tactic(auto, unfolding(crate::specs::WordDiff::moved_words))]
+fn moved_words(first: &Store, second: &Store, block: MovedBlock) -> usize
+    requires source { block.source + block.count ≤ fixed_words }
+    requires target { block.target + block.count ≤ fixed_words }
+    ensures { result ≡ moved_words first.now.fixed second.now.fixed block }
+{
+    (0..block.count)
+        .filter(|k| {
+            differs_at(first, second, block.source + *k)
+                && differs_at(first, second, block.target + *k)
+        })
+        .count()
 }
 
 /// Returns an entry of an index; 0 past its end.
