@@ -1,5 +1,5 @@
 //! The parsed arguments of `agc-study`, one struct for each subcommand.
-use agc_check::Reading;
+use agc_check::{BitChange, Reading};
 use agc_load::RunFiles;
 use agc_store::RopeForm;
 use agc_trace::{DiffBy, Layout, Notation, Selection, Span};
@@ -21,6 +21,8 @@ pub enum Args {
     Convert(ConvertArgs),
     Repair(RepairArgs),
     Patch(PatchArgs),
+    Sums(SumsArgs),
+    Merge(MergeArgs),
     Words(WordsArgs),
 }
 
@@ -60,6 +62,10 @@ pub struct ListArgs {
     pub style: ListStyle,
     /// Whether words with wrong parity are read too (`--ignore-parity`).
     pub ignores_parity: bool,
+    /// Whether words that hold +0 are printed too (`--all`).
+    pub shows_zeros: bool,
+    /// The bank of the file's first word (`--first-bank`), if the file is some modules of a rope.
+    pub first_bank: Option<u8>,
 }
 
 /// Arguments of `weave`: a text file to assemble.
@@ -85,6 +91,8 @@ pub struct CheckArgs {
     /// The text file of a rope, in the form that `weave` reads.
     pub listing: Option<String>,
     pub form: RopeForm,
+    /// The bank of the first word of a rope without a script (`--first-bank`), if it is some modules of a rope.
+    pub first_bank: Option<u8>,
 }
 
 /// Arguments of `trace`: a run, and which of its lines to print.
@@ -176,9 +184,15 @@ pub struct FilmArgs {
 pub struct ConvertArgs {
     pub rope: String,
     pub before: Reading,
+    /// The change of the bits of all words, which is undone first (`--bits`).
+    pub change: BitChange,
     pub after: Reading,
     /// Whether words with wrong parity are accepted, and their parity bits made right.
     pub ignores_parity: bool,
+    /// The bank of the file's first word (`--first-bank`), if the file is some modules of a rope.
+    pub first_bank: Option<u8>,
+    /// Whether all words whose parity bits were made right are printed, not only twenty (`--all`).
+    pub shows_all: bool,
 }
 
 /// Arguments of `repair`: a rope file in the form with parity.
@@ -189,6 +203,8 @@ pub struct RepairArgs {
     pub most: usize,
     /// Whether the file has parity bits even if none of them is 1 (`--form parity`).
     pub has_parity: bool,
+    /// The bank of the file's first word (`--first-bank`), if the file is some modules of a rope.
+    pub first_bank: Option<u8>,
 }
 
 /// Arguments of `patch`: a rope file, and the words to put into it.
@@ -196,8 +212,41 @@ pub struct RepairArgs {
 pub struct PatchArgs {
     pub rope: String,
     /// The text file of the words, a line for each.
-    pub patch: String,
+    pub patch: Option<String>,
+    /// The banks whose sums are made right after that (`--sum`).
+    pub sums: Vec<u8>,
     pub form: RopeForm,
+}
+
+/// Arguments of `sums`: a rope file.
+#[derive(Debug, Drop)]
+pub struct SumsArgs {
+    pub rope: String,
+    pub form: RopeForm,
+    /// The bank of the file's first word (`--first-bank`), if the file is some modules of a rope.
+    pub first_bank: Option<u8>,
+}
+
+/// The most dumps that `merge` takes.
+pub const MOST_DUMPS: usize = 16;
+
+/// A dump, and how it is read.
+#[derive(Debug, Drop)]
+pub struct DumpArgs {
+    pub file: String,
+    pub before: Reading,
+    /// The change of the bits of all words, which is undone first (`--bits`).
+    pub change: BitChange,
+    /// The bank of the file's first word (`--first-bank`), if the file is some modules of a rope.
+    pub first_bank: Option<u8>,
+}
+
+/// Arguments of `merge`: two to sixteen dumps of one rope.
+#[derive(Debug, Drop)]
+pub struct MergeArgs {
+    pub dumps: Vec<DumpArgs>,
+    /// Whether the rope is written if words are undecided (`--accept`).
+    pub accepts: bool,
 }
 
 /// Arguments of `compare --words`: two rope files, or two sources.

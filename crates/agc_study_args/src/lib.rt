@@ -14,10 +14,11 @@ mod until;
 mod words_apart;
 
 pub use args::{
-    Args, CheckArgs, CompareArgs, ConvertArgs, FilmArgs, JobsArgs, ListArgs, ListStyle, NAME,
-    ObservedArgs, PatchArgs, ProfileArgs, RepairArgs, RunOptions, TraceArgs, WeaveArgs, WordsArgs,
+    Args, CheckArgs, CompareArgs, ConvertArgs, DumpArgs, FilmArgs, JobsArgs, ListArgs, ListStyle,
+    MOST_DUMPS, MergeArgs, NAME, ObservedArgs, PatchArgs, ProfileArgs, RepairArgs, RunOptions,
+    SumsArgs, TraceArgs, WeaveArgs, WordsArgs,
 };
-pub use conversion::{ConvertedRope, convert_rope};
+pub use conversion::{ConvertedRope, convert_rope, read_dump};
 pub use laws::{a_listed_operand_is_addressed, a_run_stops_at_the_resolved_location};
 pub use locations::{LocationOption, resolve_locations};
 pub use named_list::list_with_names;

@@ -64,7 +64,7 @@ fn push_block(
     writeln!(text, ": {count} words")
 }
 
-/// Appends a line for each place that differs and belongs to no moved block: the word and order of each rope.
+/// Appends a line for each place that differs, unless moved blocks explain it: the word and order of each rope.
 fn push_words(
     text: &mut String,
     first: &LinedRope,
@@ -76,7 +76,7 @@ fn push_words(
         let (left, right) = (first.store.fixed_at(place), second.store.fixed_at(place));
         let left_extracode = leads_on(left_leads, place);
         let right_extracode = leads_on(right_leads, place);
-        if left.bits() != right.bits() && !is_moved(blocks, place) {
+        if left.bits() != right.bits() && !is_explained(blocks, place, left, right) {
             push_rope_place(text, place)?;
             text.push_str(": ")?;
             push_word(text, left, left_extracode, first.line_at(place))?;
@@ -90,11 +90,16 @@ fn push_words(
     Ok(())
 }
 
-/// Returns whether a place belongs to a moved block, in the first rope or in the second.
-fn is_moved(blocks: &[MovedBlock], place: usize) -> bool {
-    blocks.iter().any(|block| {
-        is_within(place, block.source, block.count) || is_within(place, block.target, block.count)
-    })
+/// Returns whether moved blocks explain what is at a place: the word of the first rope moved away, or is +0, and the word of
+/// the second rope came with a block, or is +0.
+fn is_explained(blocks: &[MovedBlock], place: usize, left: Narrow, right: Narrow) -> bool {
+    let moved_away = blocks
+        .iter()
+        .any(|block| is_within(place, block.source, block.count));
+    let moved_here = blocks
+        .iter()
+        .any(|block| is_within(place, block.target, block.count));
+    (moved_away || left.bits() == 0) && (moved_here || right.bits() == 0)
 }
 
 fn is_within(place: usize, start: usize, count: usize) -> bool {

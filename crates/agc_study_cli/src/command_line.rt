@@ -1,6 +1,7 @@
 //! The `clap` definition of the command line: the subcommands with their files and options.
 use crate::arg_list::{ArgList, Subcommands, flag, named, option, repeated};
-use crate::restore::READINGS;
+use crate::merge::{DUMP_CHANGES, DUMP_READINGS};
+use crate::restore::{CHANGES, READINGS};
 use agc_cli::{
     FORMS, form_option, limit_option, names_option, rope_file, script_file, until_option,
     watch_option,
@@ -13,6 +14,9 @@ static KINDS: [&str; 3] = ["writes", "interrupts", "jumps"];
 static STYLES: [&str; 1] = ["yul"];
 
 const FIRST_PRINTED: &str = "First machine cycle to print: decimal, from 0; 0 if left out";
+
+const FIRST_BANK: &str =
+    "Bank of the file's first word, if it is some modules of a rope: octal, 00 to 43";
 
 const LAST_PRINTED: &str = "Last machine cycle to print: decimal, from 0; the stop if left out";
 
@@ -39,6 +43,8 @@ fn subcommands<'a>(alloc: Global) -> Subcommands<'a> {
         .convert_command()
         .repair_command()
         .patch_command()
+        .sums_command()
+        .merge_command()
 }
 
 impl<'a> Subcommands<'a> {
@@ -50,6 +56,8 @@ impl<'a> Subcommands<'a> {
             .names_option("Show names of places from this file: a line for each, PLACE NAME")
             .source_option()
             .style_option()
+            .zeros_option()
+            .first_bank_option()
             .ignore_parity_option();
         self.with(
             "list",
@@ -79,7 +87,8 @@ impl<'a> Subcommands<'a> {
             .script_file(false)
             .keys_option()
             .listing_option()
-            .form_option();
+            .form_option()
+            .first_bank_of_rope();
         self.with(
             "check",
             "Reports what is wrong with a rope and a script, with live keys, or with the text of a rope.",
@@ -236,7 +245,13 @@ impl<'a> Subcommands<'a> {
             )
             .reading_option("to", "Layout of the result")
             .flag("swap", "Exchange the two bytes of each word first")
-            .ignore_parity_option();
+            .bits_option()
+            .first_bank_option()
+            .ignore_parity_option()
+            .flag(
+                "all",
+                "Print all words whose parity bits were made right, not only twenty",
+            );
         self.with(
             "convert",
             "Converts a rope file to another layout, on standard output.",
@@ -253,7 +268,8 @@ impl<'a> Subcommands<'a> {
                 "N",
                 "Print at most N repairs of each word: decimal, from 0; 16 if left out",
             )
-            .repaired_form();
+            .repaired_form()
+            .first_bank_option();
         self.with(
             "repair",
             "Prints the repairs by one bit of each word with wrong parity, in a rope file with parity, as a patch.",
@@ -265,11 +281,11 @@ impl<'a> Subcommands<'a> {
     fn patch_command(self) -> Subcommands<'a> {
         let words = ArgList::none(self.alloc)
             .rope_file(true)
-            .file(
-                "patch",
-                "PATCH",
-                "Text file of words: a line for each, PLACE WORD; # starts a comment",
-                true,
+            .patch_file()
+            .repeated(
+                "sum",
+                "BB",
+                "Make the sum of this bank its number, by its last word: octal, 00 to 43; repeatable",
             )
             .form_option();
         self.with(
@@ -277,6 +293,81 @@ impl<'a> Subcommands<'a> {
             "Puts words into a rope file, and writes it to standard output.",
             "Example:\n  agc-study patch image repairs --form parity > rope",
             words,
+        )
+    }
+
+    fn sums_command(self) -> Subcommands<'a> {
+        let words = ArgList::none(self.alloc)
+            .rope_file(true)
+            .form_option()
+            .first_bank_option();
+        self.with(
+            "sums",
+            "Prints the sum of each bank of a rope and, if it is wrong, the word that makes it right.",
+            "Example:\n  agc-study sums image --form parity",
+            words,
+        )
+    }
+
+    fn merge_command(self) -> Subcommands<'a> {
+        let words = ArgList::none(self.alloc).dump_files().dump_options().flag(
+            "accept",
+            "Write the rope although words are undecided: each is the first one that may be right",
+        );
+        self.with(
+            "merge",
+            "Merges two to sixteen dumps of a rope into one file in the form parity, word by word.",
+            "Example:\n  agc-study merge --form parity one.bin two.bin > rope",
+            words,
+        )
+    }
+}
+
+impl<'a> ArgList<'a> {
+    /// Adds the text file of `patch`, which `--sum` does without.
+    fn patch_file(self) -> ArgList<'a> {
+        let arg = named(
+            self.alloc,
+            "patch",
+            "PATCH",
+            "Text file of words: a line for each, PLACE WORD; # starts a comment",
+        )
+        .required_unless_present("sum");
+        self.with_tied(arg)
+    }
+
+    fn dump_files(self) -> ArgList<'a> {
+        let arg = named(
+            self.alloc,
+            "dump",
+            "DUMP",
+            "Two to sixteen dumps; --form, --bits and --first-bank apply to the dumps after them",
+        )
+        .action(ArgAction::Append)
+        .num_args(1..)
+        .required(true);
+        self.with(arg)
+    }
+
+    fn dump_options(self) -> ArgList<'a> {
+        let form = repeated(
+            self.alloc,
+            "form",
+            "FORM",
+            "Layout of the next dumps; classic if left out; swapped: the two bytes of each word",
+        )
+        .value_parser(DUMP_READINGS.as_slice());
+        let bits = repeated(
+            self.alloc,
+            "bits",
+            "CHANGE",
+            "Undo this change of the bits of each word of the next dumps; none if left out",
+        )
+        .value_parser(DUMP_CHANGES.as_slice());
+        self.with(form).with(bits).repeated(
+            "first-bank",
+            "BB",
+            "Bank of the first word of the next dumps, if they are some modules: octal, 00 to 43",
         )
     }
 }
@@ -298,6 +389,37 @@ impl<'a> ArgList<'a> {
         )
         .value_parser(FORMS.as_slice());
         self.with(arg)
+    }
+
+    fn bits_option(self) -> ArgList<'a> {
+        let arg = option(
+            self.alloc,
+            "bits",
+            "CHANGE",
+            "Undo this change of the bits of each word first: word-inverted leaves the parity bit",
+        )
+        .value_parser(CHANGES.as_slice());
+        self.with(arg)
+    }
+
+    fn first_bank_option(self) -> ArgList<'a> {
+        self.option("first-bank", "BB", FIRST_BANK)
+    }
+
+    /// Adds `--first-bank` for `check`, which takes it for a rope without a script.
+    fn first_bank_of_rope(self) -> ArgList<'a> {
+        let arg = option(self.alloc, "first-bank", "BB", FIRST_BANK).requires_arg("rope");
+        let arg = match arg {
+            Ok(arg) => arg.conflicts_with("script"),
+            Err(error) => Err(error),
+        };
+        self.with_tied(arg)
+    }
+
+    /// Adds `--all` for `list`, which prints neither names nor a source with it.
+    fn zeros_option(self) -> ArgList<'a> {
+        let arg = zeros_flag(self.alloc);
+        self.with_tied(arg)
     }
 
     fn ignore_parity_option(self) -> ArgList<'a> {
@@ -570,6 +692,18 @@ impl<'a> ArgList<'a> {
             .conflicts_with("by");
         self.with_tied(arg)
     }
+}
+
+/// Returns `--all` of `list`.
+fn zeros_flag<'a>(alloc: Global) -> Result<Arg<'a>, AllocError> {
+    flag(
+        alloc,
+        "all",
+        "Print words that hold +0 too: in the form with parity those that have a parity bit",
+    )
+    .conflicts_with("names")?
+    .conflicts_with("source")?
+    .conflicts_with("style")
 }
 
 /// Returns `--words` of `compare`. It excludes the files of a run, and the options that only runs use.

@@ -4,6 +4,7 @@
 mod arg_list;
 mod command_line;
 mod jobs;
+mod merge;
 mod profile;
 mod restore;
 mod runs;

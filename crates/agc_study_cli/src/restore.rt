@@ -1,10 +1,11 @@
-//! Parses the arguments of `convert`, `repair`, `patch` and `compare --words`.
+//! Parses the arguments of `convert`, `repair`, `patch`, `sums` and `compare --words`.
 use crate::runs::other_form_of;
-use crate::values::refused;
-use agc_check::{ParityBit, Reading};
-use agc_cli::{ArgsFault, form_of, number_of, path_of};
+use crate::values::{push, refused};
+use agc_check::{BitChange, ParityBit, Reading};
+use agc_cli::{ArgsFault, form_of, number_of, path_of, text_of};
 use agc_store::RopeForm;
-use agc_study_args::{Args, ConvertArgs, PatchArgs, RepairArgs, WordsArgs};
+use agc_study_args::{Args, ConvertArgs, PatchArgs, RepairArgs, SumsArgs, WordsArgs};
+use agc_word::read_octal;
 use clap::ArgMatches;
 use std::alloc::Global;
 
@@ -18,6 +19,9 @@ pub(crate) static READINGS: [&str; 6] = [
     "classic-parity-first",
 ];
 
+/// The names of the changes of bits that `convert` takes.
+pub(crate) static CHANGES: [&str; 3] = ["inverted", "word-inverted", "reversed"];
+
 /// The most repairs of a word: it has sixteen bits.
 const MOST_REPAIRS: u64 = 16;
 
@@ -25,13 +29,49 @@ pub(crate) fn convert_args(alloc: Global, given: &ArgMatches<'_>) -> Result<Args
     Ok(Args::Convert(ConvertArgs {
         rope: path_of(alloc, given, "rope")?,
         before: reading_of(given.get_str("form"), given.get_flag("swap")),
+        change: change_of(given.get_str("bits")),
         after: reading_of(given.get_str("to"), false),
         ignores_parity: given.get_flag("ignore-parity"),
+        first_bank: first_bank_of(alloc, given)?,
+        shows_all: given.get_flag("all"),
     }))
 }
 
+/// Returns the change of bits of a name.
+pub(crate) fn change_of(name: Option<&str>) -> BitChange {
+    match name {
+        Some("inverted") => BitChange::Inverted,
+        Some("word-inverted") => BitChange::WordInverted,
+        Some("reversed") => BitChange::Reversed,
+        _ => BitChange::Nothing,
+    }
+}
+
+/// Returns the bank of `--first-bank`, if there is one.
+pub(crate) fn first_bank_of(
+    alloc: Global,
+    given: &ArgMatches<'_>,
+) -> Result<Option<u8>, ArgsFault> {
+    let Some(text) = given.get_str("first-bank") else {
+        return Ok(None);
+    };
+    let bank = bank_of_text(alloc, text, "--first-bank <BB>")?;
+    Ok(Some(bank))
+}
+
+/// Returns the bank that is the value of an option.
+pub(crate) fn bank_of_text(alloc: Global, text: &str, option: &str) -> Result<u8, ArgsFault> {
+    match read_octal(2, text.as_bytes()) {
+        Some(bank) if bank <= 0o43 => Ok(bank as u8),
+        _ => {
+            let why = "a bank is one or two octal digits, 00 to 43";
+            Err(refused(alloc, text, option, why))
+        }
+    }
+}
+
 /// Returns the reading of a name.
-fn reading_of(name: Option<&str>, is_swapped: bool) -> Reading {
+pub(crate) fn reading_of(name: Option<&str>, is_swapped: bool) -> Reading {
     let (order, parity) = match name {
         Some("parity") => (RopeForm::Parity, ParityBit::Last),
         Some("plain") => (RopeForm::Parity, ParityBit::Unused),
@@ -52,6 +92,7 @@ pub(crate) fn repair_args(alloc: Global, given: &ArgMatches<'_>) -> Result<Args,
         rope: path_of(alloc, given, "rope")?,
         most: number_of(given, "most", MOST_REPAIRS).min(MOST_REPAIRS) as usize,
         has_parity: is_parity_form(alloc, given.get_str("form"))?,
+        first_bank: first_bank_of(alloc, given)?,
     }))
 }
 
@@ -70,8 +111,26 @@ fn is_parity_form(alloc: Global, form: Option<&str>) -> Result<bool, ArgsFault> 
 pub(crate) fn patch_args(alloc: Global, given: &ArgMatches<'_>) -> Result<Args, ArgsFault> {
     Ok(Args::Patch(PatchArgs {
         rope: path_of(alloc, given, "rope")?,
-        patch: path_of(alloc, given, "patch")?,
+        patch: text_of(alloc, given, "patch")?,
+        sums: summed_banks(alloc, given)?,
         form: form_of(given),
+    }))
+}
+
+/// Parses the banks of `--sum`.
+fn summed_banks(alloc: Global, given: &ArgMatches<'_>) -> Result<Vec<u8>, ArgsFault> {
+    let mut banks = Vec::new(alloc);
+    for text in given.get_strs("sum").unwrap_or(&[]) {
+        push(&mut banks, bank_of_text(alloc, text, "--sum <BB>")?)?;
+    }
+    Ok(banks)
+}
+
+pub(crate) fn sums_args(alloc: Global, given: &ArgMatches<'_>) -> Result<Args, ArgsFault> {
+    Ok(Args::Sums(SumsArgs {
+        rope: path_of(alloc, given, "rope")?,
+        form: form_of(given),
+        first_bank: first_bank_of(alloc, given)?,
     }))
 }
 

@@ -1,8 +1,9 @@
 //! Parses the words of a command line into the arguments of a subcommand.
 use crate::command_line::command;
 use crate::jobs::jobs_args;
+use crate::merge::merge_args;
 use crate::profile::profile_args;
-use crate::restore::{convert_args, patch_args, repair_args, words_args};
+use crate::restore::{convert_args, first_bank_of, patch_args, repair_args, sums_args, words_args};
 use crate::runs::{files_of, options_of, other_files_of, other_form_of};
 use crate::shown::{shown_of, with_right_form};
 use crate::values::{channel_names_of, channels_of, mistake, orders_of, span_of, texts_of};
@@ -77,6 +78,8 @@ fn args_of(alloc: Global, name: &str, given: &ArgMatches<'_>) -> Result<Args, Ar
         "convert" => convert_args(alloc, given),
         "repair" => repair_args(alloc, given),
         "patch" => patch_args(alloc, given),
+        "sums" => sums_args(alloc, given),
+        "merge" => merge_args(alloc, given),
         _ => Err(mistake(alloc, "error: no such subcommand: see --help\n")),
     }
 }
@@ -89,6 +92,8 @@ fn list_args(alloc: Global, given: &ArgMatches<'_>) -> Result<Args, ArgsFault> {
         names: text_of(alloc, given, "names")?,
         style: style_of(given),
         ignores_parity: given.get_flag("ignore-parity"),
+        shows_zeros: given.get_flag("all"),
+        first_bank: first_bank_of(alloc, given)?,
     }))
 }
 
@@ -132,6 +137,7 @@ fn check_args(alloc: Global, given: &ArgMatches<'_>) -> Result<Args, ArgsFault> 
         keys,
         listing,
         form: form_of(given),
+        first_bank: first_bank_of(alloc, given)?,
     }))
 }
 

@@ -6,6 +6,7 @@ mod compare;
 mod count;
 mod film;
 mod jobs;
+mod merging;
 mod misnamed;
 mod names;
 mod page_lines;

@@ -2,7 +2,7 @@
 mod grammar;
 
 use super::{joined, repeated, same};
-use agc_asm::check_listing;
+use agc_asm::{check_listing, line_remarks};
 use agc_check::{
     RopeHoldings, ScriptHoldings, Span, check, check_keys, holdings_of_rope, holdings_of_script,
 };
@@ -424,7 +424,7 @@ fn listing_reports(rt: &(impl AllocGlobal + Abort), listing: &[u8], text: &str) 
 /// Texts for `weave`: no fault, or the faulty line and word.
 #[test]
 fn listings(rt: HostRuntime) {
-    let texts: [(&[u8], &str); 15] = [
+    let texts: [(&[u8], &str); 17] = [
         (b"", "text: no fault\n"),
         (b"START CA PROG\nPROG OCT 54171", "text: no fault\n"),
         (
@@ -436,8 +436,13 @@ fn listings(rt: HostRuntime) {
             "text line 1: no order or directive has this name (they come after the first column)\n    START CAA 4000 # one\n    column 7: unknown order or directive `CAA`; did you mean `CA`?\n",
         ),
         (
-            b"# here\nSTART # alone\n",
-            "text line 2: no order or directive has this name (they come after the first column)\n    START # alone\n    column 1: the order is missing: write it after the name\n",
+            b"# here\n+1 # alone\n",
+            "text line 2: no order or directive has this name (they come after the first column)\n    +1 # alone\n    column 1: the order is missing: write it after the name\n",
+        ),
+        (b"START # alone\n", "text: no fault\n"),
+        (
+            b"EXTEND\n",
+            "text line 1: no order or directive has this name (they come after the first column)\n    EXTEND\n    column 1: `EXTEND` is in the first column, where names are: begin the line with a blank\n",
         ),
         (
             b"SETLOC 4000\n",
@@ -454,23 +459,23 @@ fn listings(rt: HostRuntime) {
         (b"# a rope\n4000 14000 TCF 4000", "text: no fault\n"),
         (
             b"4000 14000\n3777 00001 here\n",
-            "text line 2: BadAddress\n    3777 00001 here\n    column 1: `3777` is not a place of a rope: 4000 to 7777, or a bank from 00 to 43 and an address, as 04,2000; start comments with #\n",
+            "text line 2: the line begins with no place of a rope: 4000 to 7777, or a bank from 00 to 43 and an address, as 04,2000\n    3777 00001 here\n    column 1: `3777` is not a place of a rope: 4000 to 7777, or a bank from 00 to 43 and an address, as 04,2000; start comments with #\n",
         ),
         (
             b"4000\t1010 WRITE\r\n",
-            "text line 1: BadWord\n    4000\t1010 WRITE\n    column 6: `1010` is not a word: five octal digits\n",
+            "text line 1: after a place comes its word: five octal digits\n    4000\t1010 WRITE\n    column 6: `1010` is not a word: five octal digits\n",
         ),
         (
             b"\n4000",
-            "text line 2: BadWord\n    4000\n    column 1: the word is missing: five octal digits after the place\n",
+            "text line 2: after a place comes its word: five octal digits\n    4000\n    column 1: the word is missing: five octal digits after the place\n",
         ),
         (
             b"4000 00001\n# again\n02,4000 00001",
-            "text line 3: NamedTwice\n    02,4000 00001\n    column 1: `02,4000` has a word from an earlier line: write each place once\n",
+            "text line 3: an earlier line has a word for this place: write each place once\n    02,4000 00001\n    column 1: `02,4000` has its word from line 1\n",
         ),
         (
             b"4000 00001 caf\xC3\xA9",
-            "text line 1: NotText\n    4000 00001 caf\\303\\251\n    column 12: `caf\\303\\251` has a byte that is neither a tab nor printable ASCII\n",
+            "text line 1: a byte of this line is neither a tab nor printable ASCII\n    4000 00001 caf\\303\\251\n    column 12: `caf\\303\\251` has a byte that is neither a tab nor printable ASCII\n",
         ),
         (b"# ~ \x7F", "text: no fault\n"),
     ];
@@ -509,10 +514,10 @@ fn names_of_sources_at_fault(rt: HostRuntime) {
         &rt,
         &[
             (
-                "+1 OCT 1",
+                "A,B OCT 1",
                 "a name is 1 to 8 characters, without a comma and not only digits and signs",
                 1,
-                "`+1` is in the first column before `OCT`",
+                "`A,B` is in the first column before `OCT`",
             ),
             (
                 "# x\nX OCT 1\n OCT 2\nX OCT 3",
@@ -522,13 +527,13 @@ fn names_of_sources_at_fault(rt: HostRuntime) {
             ),
             (
                 " = 4000",
-                "= and EQUALS need a name in the first column; SETLOC, BANK, EBANK= and SBANK= take none",
+                "=, EQUALS, =MINUS and =ECADR need a name in the first column; BANK and BLOCK take none",
                 2,
                 "no name is in the first column before `=`",
             ),
             (
                 "X BANK 4",
-                "= and EQUALS need a name in the first column; SETLOC, BANK, EBANK= and SBANK= take none",
+                "=, EQUALS, =MINUS and =ECADR need a name in the first column; BANK and BLOCK take none",
                 1,
                 "`X` is in the first column before `BANK`",
             ),
@@ -579,49 +584,141 @@ fn orders_of_sources_at_fault(rt: HostRuntime) {
             ),
             (
                 "4000 00001\n CA 0",
-                "NamedTwice",
+                "an earlier line has a word for this place: write each place once",
                 2,
-                "`CA` is at a place that has a word already",
+                "`CA` has its word from line 1",
             ),
         ],
     );
 }
 
-/// What the listings have beside the basic language is refused by name, with its column.
+/// A typed listing: lines whose text is another order, operand or number than the word, and places without a line.
+#[test]
+fn lines_in_doubt(rt: HostRuntime) {
+    let texts = [
+        (
+            "02,4000 34004 CS 4004\n4001 34005 CA 4006\n",
+            "    line 1: the word 34004 is CA 4004, not CS 4004\n    line 2: the word 34005 is CA 4005, not CA 4006\n",
+        ),
+        (
+            "4000 00006 EXTEND\n\n4002 01010 WRITE 10 # to the relays\n4005 14005 TCF 4005\n",
+            "    line 3: no line before it has 02,4001\n    line 4: no line before it has 02,4003 to 02,4004\n",
+        ),
+        (
+            "4000 34004 OCT 34005\n4001 54001 OVSK\n4002 01010 WRITE 11\n",
+            "    line 1: the word is 34004, not OCT 34005\n    line 2: the word 54001 is TS 0001, not OVSK 0\n    line 3: the word 01010 is WRITE 010, not WRITE 11\n",
+        ),
+    ];
+    for (listing, lines) in texts {
+        let text = joined(&rt, &["text: no fault, but see these lines:\n", lines]);
+        let report = check_listing(rt.alloc(), listing.as_bytes())
+            .ok()
+            .expect(&rt, "memory");
+        reads(&rt, &report, text.as_str(), true);
+    }
+}
+
+/// Each line says what its word is, or what cannot be compared; banks do not go on in one another, nor does a source.
+#[test]
+fn lines_without_doubt(rt: HostRuntime) {
+    for listing in [
+        "4000 34004 CAF 4004\n4001 34005 DCA 4004\n4002 00003 TC 3\n4003 00003 RELINT 5\n4004 50017 INDEX 17\n",
+        "4000 34004 CA THERE\n4001 34004 CA 4003 +1\n4002 34004 relay CS 1\n4003 12005 NOOP\n4004 00001 DEC 1\n",
+        "02,5777 00001\n03,6000 00001\n04,2000 00001\n05,2100 00001\n",
+        "4001 00001\n OCT 2\n4010 00003\n",
+        "4010 00003\n4000 00001\n",
+    ] {
+        listing_reports(&rt, listing.as_bytes(), "text: no fault\n");
+    }
+}
+
+/// An unknown name has one line, with the number of the lines that use it.
+#[test]
+fn uses_of_an_unknown_name(rt: HostRuntime) {
+    listing_reports(
+        &rt,
+        b" CA ONE\n CA TWO\n TS ONE +1\n CA ONE\n",
+        "text line 1: no line has this name\n     CA ONE\n    column 5: unknown name `ONE`\n    3 lines use this name\ntext line 2: no line has this name\n     CA TWO\n    column 5: unknown name `TWO`\n",
+    );
+}
+
+/// A letter O in a place, a word or an operand.
+#[test]
+fn letters_like_zeros(rt: HostRuntime) {
+    let texts: [(&[u8], &str); 3] = [
+        (
+            b"4000 00001\nO2,4001 34004\n",
+            "text line 2: no order or directive has this name (they come after the first column)\n    O2,4001 34004\n    column 1: `O2,4001` has a letter O, which looks like a zero\n",
+        ),
+        (
+            b"02,4000 3400O\n",
+            "text line 1: after a place comes its word: five octal digits\n    02,4000 3400O\n    column 9: `3400O` is not a word: five octal digits\n    `3400O` has a letter O, which looks like a zero\n",
+        ),
+        (
+            b" CA 4O04\n",
+            "text line 1: no line has this name\n     CA 4O04\n    column 5: unknown name `4O04`\n    `4O04` has a letter O, which looks like a zero\n",
+        ),
+    ];
+    for (text, reported) in texts {
+        listing_reports(&rt, text, reported);
+    }
+}
+
+/// Remarks on directives that skip an order.
+#[test]
+fn remarks_on_lines(rt: HostRuntime) {
+    for (source, remarks) in [
+        (
+            " COUNT TS 0100\n+1 MEMORY CAF X\n COUNT* $$/PAGE\nCOUNT TS 0100\n",
+            "agc-study: text line 1: COUNT is a directive and skips TS behind it: a name begins in the first column\nagc-study: text line 2: MEMORY is a directive and skips CAF behind it: a name begins in the first column\n",
+        ),
+        (
+            "4000 00001 COUNT TS\n# COUNT TS 1\n EXTEND\n READ 15\n CA 15\n",
+            "",
+        ),
+    ] {
+        let lines = line_remarks(rt.alloc(), source.as_bytes())
+            .ok()
+            .expect(&rt, "memory");
+        same(&rt, lines.as_str(), remarks, source);
+    }
+}
+
+/// What the listings have beside what is read is refused by name, with its column; so are faults of interpretive lines.
 #[test]
 fn other_languages_are_named(rt: HostRuntime) {
     points(
         &rt,
         &[
             (
-                "X\tDLOAD\tDMP",
-                "the interpreter's language is not read",
-                3,
-                "`DLOAD` is an operation of the interpreter",
+                "X\tDLOAD\tX",
+                "at the right of an operation only another one may stand: write operands on the next lines",
+                9,
+                "`X` is behind `DLOAD`",
             ),
             (
-                "\t\tVXSC*\tX # by a number",
-                "the interpreter's language is not read",
+                "\t\tEXIT*\t# by a number",
+                "`*` and an index belong together: write ,1 or ,2 behind an operand of a starred operation only",
                 3,
-                "`VXSC*` is an operation of the interpreter",
+                "`EXIT*` is an operation of the interpreter",
             ),
             (
-                " +2 AXT,1 6",
-                "the interpreter's language is not read",
+                " +2 AXT,1",
+                "an operand is missing: write it on the line after the operations",
                 5,
                 "`AXT,1` is an operation of the interpreter",
             ),
             (
-                " 2FCADR X",
+                " 2BCADR X",
                 "this directive is not supported",
                 2,
-                "`2FCADR` is a directive of the flight listings",
+                "`2BCADR` is a directive of the flight listings",
             ),
             (
-                "X =MINUS 3",
+                "X CHECK= 3",
                 "this directive is not supported",
                 3,
-                "`=MINUS` is a directive of the flight listings",
+                "`CHECK=` is a directive of the flight listings",
             ),
             (
                 "# caf\u{e9}\n OCT 1 # \u{e9}\n$PAGE.agc",
@@ -682,9 +779,27 @@ fn operands_of_sources_at_fault(rt: HostRuntime) {
             ),
             (
                 " EXTEND\n READ 1000",
-                "this order takes a channel, 0 to 777",
+                "this order takes a channel: a number from 0 to 777, or a name of 0 to 60 or 77",
                 7,
                 "`1000` is in the operand of `READ`",
+            ),
+            (
+                " SETLOC 0100\nLAMP ERASE\n SETLOC 4000\n EXTEND\n WRITE LAMP",
+                "this order takes a channel: a number from 0 to 777, or a name of 0 to 60 or 77",
+                8,
+                "`LAMP` is in the operand of `WRITE`",
+            ),
+            (
+                "LAMP EQUALS 11\n EXTEND\n WRITE LAMP\n CA LAMP",
+                "another line takes this name as a channel: give the cell a name of its own",
+                5,
+                "`LAMP` is a channel in line 3",
+            ),
+            (
+                " CAF ZERO",
+                "a place in fixed memory is expected here",
+                6,
+                "`ZERO` is built in, as cell 0007: CA takes it; or give a line of your own this name",
             ),
             (
                 " SETLOC 04,2000\nX OCT 1\n SETLOC 05,2000\n CA X",

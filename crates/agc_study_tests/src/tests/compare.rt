@@ -1,9 +1,10 @@
 //! Tests comparisons of small programs, worked out by hand. The numbers are octal, except for cycles.
 use super::{SHOWS_PROG, has_lines, machine_of};
-use agc_diff::{SideNames, compare, push_comparison};
+use agc_diff::compare;
 use agc_io::NoProgress;
 use agc_machine::Machine;
 use agc_symbols::SymbolTable;
+use agc_text::{SideNames, push_comparison};
 use std::alloc::{AllocError, Global};
 use std::process::Abort;
 

@@ -1,8 +1,9 @@
 //! Tests the profile of a small program, worked out by hand.
 use super::{SHOWS_PROG, machine_of, same, symbols};
 use agc_io::NoProgress;
-use agc_profile::{Profile, ProfileForm, Tally, count, push_profile};
+use agc_profile::{Profile, Tally, count};
 use agc_symbols::SymbolTable;
+use agc_text::{ProfileForm, push_profile};
 use agc_trace::{Layout, Span};
 use std::process::Abort;
 

@@ -1,12 +1,15 @@
 //! Tests what restores a damaged rope, worked out by hand.
-use super::{rope_of, same};
+use super::{repeated, rope_of, same};
 use agc_check::{
-    BadWord, BankSum, MovedBlock, ParityBit, Reach, Reading, SumFit, apply_patch, bad_words,
-    convert, converting_there_and_back, file_of_words, file_words, files_hold_their_words, fit_of,
-    follow_orders, is_bad_parity, is_legal, moved_blocks, places_apart, repairs, right_parity,
-    score_readings, sum_in_bank, the_missing_word_makes_the_sum, word_sum, words_make_their_file,
+    BadWord, BankSum, BitChange, Damage, MovedBlock, ParityBit, Reach, Reading, Repair, SumFit,
+    Sureness, apply_patch, bad_words, check_word, check_words_make_sums_right, convert,
+    converting_there_and_back, damage_of, file_of_words, file_words, files_hold_their_words,
+    fit_of, follow_orders, is_bad_parity, is_legal, may_be_modules, moved_blocks, places_apart,
+    push_repair_line, repairs, right_parity, score_readings, sum_in_bank,
+    the_missing_word_makes_the_sum, undo_bit_change, word_sum, words_in_banks,
+    words_make_their_file,
 };
-use agc_listing::{LineFault, WeaveFault};
+use agc_listing::{LineFault, PlacedWord, WeaveFault};
 use agc_load::LoadFault;
 use agc_store::{RopeFault, RopeForm, Store};
 use agc_study_args::{RopeRead, read_any_rope};
@@ -231,6 +234,11 @@ fn sums_of_banks(rt: HostRuntime) {
     };
     same(&rt, sum_in_bank(&store, 2), Some(wanted), "bank 02");
     same(&rt, sum_in_bank(&store, 3), None, "bank 03");
+    let named = PlacedWord {
+        place: 0o4001,
+        word: narrow(0o00001),
+    };
+    same(&rt, check_word(&store, 2), Some(named), "check word");
     let store = store_of(&rt, "4000 00001\n4001 77774\n");
     let fit = match sum_in_bank(&store, 2) {
         Some(sum) => sum.fit,
@@ -238,6 +246,7 @@ fn sums_of_banks(rt: HostRuntime) {
     };
     same(&rt, fit, SumFit::Complement, "complement");
     the_missing_word_makes_the_sum();
+    check_words_make_sums_right();
 }
 
 #[test]
@@ -264,17 +273,32 @@ fn legal_orders(rt: HostRuntime) {
     }
 }
 
+/// Returns the repairs of one of these words.
+fn repairs_found(
+    rt: &(impl AllocGlobal + Abort),
+    store: &Store,
+    is_placed: bool,
+    wrong: &[BadWord],
+    bad: BadWord,
+) -> Vec<Repair> {
+    if bad.place < 36864 {
+        repairs(rt.alloc(), store, is_placed, wrong, bad)
+            .ok()
+            .expect(rt, "memory")
+    } else {
+        Vec::new(rt.alloc())
+    }
+}
+
 #[test]
 fn repairs_of_a_word(rt: HostRuntime) {
     // TCF 4000 is 3001 hex with its parity bit; with bit 2 flipped it is 3003 hex, TCF 4001.
     let store = store_of(&rt, "4000 14001\n");
-    let bad = [BadWord {
+    let bad = BadWord {
         place: 0o4000,
         word: 0x3003,
-    }];
-    let found = repairs(rt.alloc(), &store, bad.as_slice())
-        .ok()
-        .expect(&rt, "memory");
+    };
+    let found = repairs_found(&rt, &store, true, [bad].as_slice(), bad);
     same(&rt, found.len(), 16, "sixteen");
     let first = found
         .as_slice()
@@ -285,6 +309,146 @@ fn repairs_of_a_word(rt: HostRuntime) {
         .iter()
         .position(|repair| repair.word == narrow(0o14001));
     same(&rt, first < illegal, true, "the legal one first");
+}
+
+/// A bad word at 4000: 00006 whose bit of value 2 was read as 0, and 00006 whose parity bit was.
+const ONE_FITS: BadWord = BadWord {
+    place: 0o4000,
+    word: 0x0009,
+};
+
+const TWO_FIT: BadWord = BadWord {
+    place: 0o4000,
+    word: 0x000C,
+};
+
+/// Another bad word of bank 02, and one of bank 04.
+const BESIDE: BadWord = BadWord {
+    place: 0o4001,
+    word: 0x0003,
+};
+
+const ELSEWHERE: BadWord = BadWord {
+    place: 0o10001,
+    word: 0x0003,
+};
+
+/// Checks how sure the first repair of a bad word in bank 02 is, beside another bad word.
+fn is_repaired(
+    rt: &(impl AllocGlobal + Abort),
+    listing: &str,
+    is_placed: bool,
+    words: [BadWord; 2],
+    wanted: Sureness,
+) {
+    let store = store_of(rt, listing);
+    let found = repairs_found(rt, &store, is_placed, words.as_slice(), words[0]);
+    let first = found.as_slice().first().map(|repair| repair.sureness);
+    same(rt, first, Some(wanted), listing);
+}
+
+/// In bank 02 are 00006 and 77773, which is -4: the sum is 2. In bank 04 are 00006 and 77775, which is -2: the sum is 4. With
+/// another word in place of 00006 the sum of bank 02 is right if the word is 6, or 2 for the complement.
+#[test]
+fn sure_repairs(rt: HostRuntime) {
+    let read = "4000 00004\n4001 77773\n04,2000 00006\n04,2001 77775\n";
+    is_repaired(&rt, read, true, [ONE_FITS, ELSEWHERE], Sureness::Sure);
+    is_repaired(&rt, read, false, [ONE_FITS, ELSEWHERE], Sureness::Fits);
+    is_repaired(&rt, read, true, [ONE_FITS, BESIDE], Sureness::Fits);
+    is_repaired(&rt, read, true, [TWO_FIT, ELSEWHERE], Sureness::Fits);
+    let alone = "4000 00004\n4001 77773\n";
+    is_repaired(&rt, alone, true, [ONE_FITS, ELSEWHERE], Sureness::Fits);
+    let others_wrong = "4000 00004\n4001 77773\n04,2000 00006\n05,2000 00006\n06,2000 00006\n";
+    is_repaired(
+        &rt,
+        others_wrong,
+        true,
+        [ONE_FITS, ELSEWHERE],
+        Sureness::Fits,
+    );
+}
+
+#[test]
+fn lines_of_repairs(rt: HostRuntime) {
+    let store = store_of(&rt, "4000 00004\n");
+    let repair = Repair {
+        place: 0o4000,
+        word: narrow(0o00006),
+        is_legal: true,
+        plausibility: 12,
+        sureness: Sureness::Sure,
+    };
+    let mut text = String::new(rt.alloc());
+    push_repair_line(&mut text, &store, repair).expect(&rt, "memory");
+    let wanted = "02,4000 00006 EXTEND (sure if no other word of this bank is wrong)\n";
+    same(&rt, text.as_str(), wanted, "line");
+}
+
+/// Checks what the words with wrong parity come from.
+fn is_damaged(rt: &(impl AllocGlobal + Abort), words: &[u16], wanted: Damage, row: &str) {
+    let wrong = bad_words(rt.alloc(), words).ok().expect(rt, "memory");
+    same(rt, damage_of(words, wrong.as_slice()), wanted, row);
+}
+
+#[test]
+fn kinds_of_damage(rt: HostRuntime) {
+    // Three bad words of four. The last bit and the first twelve are the same in all three.
+    let words = [0x0003, 0x0005, 0x0009, 0x0007];
+    is_damaged(&rt, words.as_slice(), Damage::Layout, "several bits");
+    // Three bad words of four: only the bit of value 2 is the same in all three.
+    let words = [0x0003, 0x5556, 0xAAAA, 0x0007];
+    is_damaged(&rt, words.as_slice(), Damage::Stuck(1), "one bit");
+    let words = [0x0003, 0x0001, 0x0002];
+    is_damaged(&rt, words.as_slice(), Damage::Words, "one word");
+    // Two bad words before 22 equal ones, which count once.
+    let words = [
+        3, 5, 7, 7, 7, 7, 7, 7, 7, 7, 7, 7, 7, 7, 7, 7, 7, 7, 7, 7, 7, 7, 7, 7,
+    ];
+    is_damaged(&rt, words.as_slice(), Damage::Layout, "equal neighbours");
+}
+
+#[test]
+fn bits_that_changed(rt: HostRuntime) {
+    for (change, reading, word) in [
+        (BitChange::Nothing, PARITY, 0x7009),
+        (BitChange::Inverted, PARITY, 0x8FF6),
+        (BitChange::WordInverted, PARITY, 0x8FF7),
+        (BitChange::WordInverted, ODD, 0x8F76),
+        (BitChange::Reversed, PARITY, 0x900E),
+    ] {
+        let new = undo_bit_change(rt.alloc(), reading, change, [0x7009].as_slice())
+            .ok()
+            .expect(&rt, "memory");
+        same(&rt, new.as_slice(), [word].as_slice(), "bits");
+    }
+}
+
+#[test]
+fn modules_in_their_banks(rt: HostRuntime) {
+    same(&rt, may_be_modules(12288), true, "six banks");
+    same(&rt, may_be_modules(12290), false, "a word more");
+    same(&rt, may_be_modules(73728), false, "a rope");
+    let placed = words_in_banks(rt.alloc(), RopeForm::Parity, 1, [7, 8].as_slice())
+        .ok()
+        .expect(&rt, "memory")
+        .expect(&rt, "room");
+    same(&rt, placed.len(), 1026, "a bank before");
+    same(&rt, at(placed.as_slice(), 1025), 8, "the last word");
+    // In the classic form bank 00 is the third of the file.
+    let placed = words_in_banks(rt.alloc(), RopeForm::Classic, 0, [7].as_slice())
+        .ok()
+        .expect(&rt, "memory")
+        .expect(&rt, "room");
+    same(&rt, placed.len(), 4096, "four banks");
+    same(&rt, at(placed.as_slice(), 2048), 7, "bank 00");
+    let bytes = repeated(&rt, 0, 2050);
+    let long = file_words(rt.alloc(), bytes.as_slice())
+        .ok()
+        .expect(&rt, "memory");
+    let placed = words_in_banks(rt.alloc(), RopeForm::Parity, 0o43, long.as_slice())
+        .ok()
+        .expect(&rt, "memory");
+    same(&rt, placed.is_none(), true, "past bank 43");
 }
 
 #[test]
@@ -303,7 +467,7 @@ fn orders_that_are_reached(rt: HostRuntime) {
     let scores = score_readings(rt.alloc(), [0x0008, 0x3006, 0x0002, 0x3006].as_slice())
         .ok()
         .expect(&rt, "memory");
-    same(&rt, scores.len(), 12, "twelve");
+    same(&rt, scores.len(), 48, "four times twelve");
     let first = scores.as_slice().iter().next().copied();
     let points = match first {
         Some(score) => score.points,
@@ -331,4 +495,16 @@ fn words_of_two_ropes(rt: HostRuntime) {
         count: 3,
     }];
     same(&rt, blocks.as_slice(), wanted.as_slice(), "blocks");
+
+    // Four words are in the first rope at 4000 and at 4020. One of them changed, so nothing moved.
+    let repeated =
+        "4000 00001\n4001 00002\n4002 00003\n4003 00004\n4020 00001\n4021 00002\n4022 00003\n4023 00004\n";
+    let changed =
+        "4000 00007\n4001 00002\n4002 00003\n4003 00004\n4020 00001\n4021 00002\n4022 00003\n4023 00004\n";
+    let first = store_of(&rt, repeated);
+    let second = store_of(&rt, changed);
+    let blocks = moved_blocks(rt.alloc(), &first, &second, 3)
+        .ok()
+        .expect(&rt, "memory");
+    same(&rt, blocks.is_empty(), true, "nothing moved");
 }

@@ -225,6 +225,65 @@ fn lines_of_listings(rt: HostRuntime) {
     }
 }
 
+/// Directives of flight programs, each at 05,2100, with their words.
+#[test]
+fn directives_of_flight_programs(rt: HostRuntime) {
+    let rows = [
+        (
+            " 1DNADR 100\n 2DNADR 100\n",
+            "05,2100 00100\n05,2101 04100\n",
+        ),
+        (
+            " 3DNADR 3777\n 4DNADR 0\n",
+            "05,2100 13777\n05,2101 14000\n",
+        ),
+        (
+            " 5DNADR 17\n 6DNADR 1401\n",
+            "05,2100 20017\n05,2101 25401\n",
+        ),
+        (
+            " -1DNADR 100\n -6DNADR 1401\n",
+            "05,2100 77677\n05,2101 52376\n",
+        ),
+        (
+            " DNCHAN 11\n -DNCHAN 11\n",
+            "05,2100 34011\n05,2101 43766\n",
+        ),
+        (
+            " DNPTR 22103\n -DNPTR 22103\n",
+            "05,2100 32103\n05,2101 45674\n",
+        ),
+        (" BBCON*\n NV 0616\n", "05,2100 66100\n05,2101 01420\n"),
+        (" 2FCADR 22103\n", "05,2100 12000\n05,2101 02103\n"),
+        (" 2FCADR 112003\n", "05,2100 62000\n05,2101 02003\n"),
+        (" SUBRO X\n OCT 7\n", "05,2100 00007\n"),
+        ("X =MINUS 22077\n ADRES X\n", "05,2100 00001\n"),
+        ("X =ECADR 1401\n ECADR X\n", "05,2100 01401\n"),
+        (
+            "X EQUALS +1\nY = -10D\n TCF X\n TCF Y\n",
+            "05,2100 12101\n05,2101 12066\n",
+        ),
+        ("HERE\n TCF HERE\n", "05,2100 12100\n"),
+        ("HERE # alone\n OCT 7\n", "05,2100 00007\n"),
+        ("X SETLOC 22110\n TCF X\n", "05,2110 12110\n"),
+        (
+            "X EBANK= 1400\nY SBANK= 70000\n TCF X\n TCF Y\n",
+            "05,2100 12100\n05,2101 12100\n",
+        ),
+    ];
+    for (lines, words) in rows {
+        let source = joined(&rt, &[" SETLOC 22100\n", lines]);
+        weaves(&rt, source.as_str(), words);
+    }
+    refuses(&rt, 1, SourceFault::UnknownOrder, "EXTEND\n");
+    refuses(&rt, 1, SourceFault::MisplacedName, " =MINUS 4000\n");
+    refuses(&rt, 1, SourceFault::NoSuchPlace, "X =MINUS 4001\n");
+    refuses(&rt, 1, SourceFault::ErasableWanted, "X =ECADR 4001\n");
+    refuses(&rt, 1, SourceFault::ErasableWanted, " 1DNADR 4001\n");
+    refuses(&rt, 1, SourceFault::AnotherBank, " DNPTR 4001\n");
+    refuses(&rt, 1, SourceFault::BadOperand, " BBCON* 4001\n");
+}
+
 /// Words in erasable memory take cells, and are not in the rope. ERASE fills a bank to its end.
 #[test]
 fn words_in_erasable_memory(rt: HostRuntime) {
@@ -298,10 +357,23 @@ fn faults_of_places(rt: HostRuntime) {
     refuses(&rt, 2, SourceFault::WrongMemory, " SETLOC 100\n BANK\n");
     refuses(
         &rt,
-        2,
-        SourceFault::Listed(LineFault::NamedTwice),
-        " CA 1\n4000 30002\n",
+        5,
+        SourceFault::ChannelName,
+        "KEYS EQUALS 15\n EXTEND\n READ KEYS\n TS L\n CA KEYS\n",
     );
+}
+
+/// An overlap names both lines: of two orders, a pair's second word, and two lines of a listing.
+#[test]
+fn an_overlap_names_both_lines(rt: HostRuntime) {
+    for (line, earlier, source) in [
+        (2, 1, " CA 1\n4000 30002\n"),
+        (4, 2, "4003 00001\n 2DEC 1\n SETLOC 4001\n CA 1\n"),
+        (3, 1, "4001 00001\n4000 00002\n4001 00003\n"),
+    ] {
+        let reported = assemble(rt.alloc(), RopeForm::Classic, source.as_bytes()).err();
+        assert_eq!(rt; reported, Some(AssemblyFault::Overlap(line, earlier)));
+    }
 }
 
 /// If one pass finds two faults, the first is reported, and names come before words.
@@ -370,4 +442,73 @@ fn a_rope_stands_as_a_page(rt: HostRuntime) {
         "page",
     );
     weaves(&rt, page.as_str(), words);
+}
+
+/// Places in the window are numbers as listings count them: 10000 octal, 2000 for each bank, and the offset. An order in
+/// 02 or 03 does not say the bank, so bank 00 is taken. Cells have their addresses.
+#[test]
+fn a_page_counts_places_in_banks(rt: HostRuntime) {
+    let words =
+        "02,4000 12003\n02,4001 34004\n04,2000 12003\n04,2001 33777\n04,2002 31403\n43,2000 02077\n";
+    let store = store_of_source(&rt, words);
+    let page = yul_source(rt.alloc(), &store, None, &None)
+        .ok()
+        .expect(&rt, "memory");
+    same(
+        &rt,
+        page.as_str(),
+        "\tSETLOC\t4000\n\tTCF\t10003\n\tCA\t4004\n\tSETLOC\t20000\n\tTCF\t20003\n\tCA\t21777\n\tCA\t1403\n\tSETLOC\t116000\n\tTC\t116077\n",
+        "page",
+    );
+    weaves(&rt, page.as_str(), words);
+}
+
+/// A sign and digits in the first column are no name: the line is as without them.
+#[test]
+fn adornments_in_the_first_column(rt: HostRuntime) {
+    weaves(
+        &rt,
+        "START TCF START\n+1 TCF START\n-10D OCT 7\n+2\tTCF +1\n",
+        "4000 14000\n4001 14000\n4002 00007\n4003 14004\n",
+    );
+}
+
+/// A name of a register, a counter or 77 may be a channel's; that of a memory cell is refused, also with its bank.
+#[test]
+fn names_of_channels(rt: HostRuntime) {
+    weaves(
+        &rt,
+        "OUT0 EQUALS 10\nLAST EQUALS 60\nALARM EQUALS 77\n EXTEND\n WRITE OUT0\n EXTEND\n READ LAST\n EXTEND\n ROR ALARM\n EXTEND\n WAND OUT0 +1\n EXTEND\n READ 100\n",
+        "4000 00006\n4001 01010\n4002 00006\n4003 00060\n4004 00006\n4005 04077\n4006 00006\n4007 03011\n4010 00006\n4011 00100\n",
+    );
+    for source in [
+        "LAMP EQUALS 61\n EXTEND\n WRITE LAMP",
+        "LAMP EQUALS 76\n EXTEND\n WRITE LAMP",
+        "LAMP EQUALS 60\n EXTEND\n WRITE LAMP +1",
+        "LAMP EQUALS 100\n EXTEND\n WRITE LAMP",
+        "LAMP EQUALS 1400\n EXTEND\n WRITE E3,1400",
+    ] {
+        refuses(&rt, 3, SourceFault::ChannelWanted, source);
+    }
+}
+
+/// A name that an order takes as a channel is no cell's, in lines before and after; but L and Q are both, and another
+/// name of the cell is its own.
+#[test]
+fn names_of_channels_and_cells(rt: HostRuntime) {
+    weaves(
+        &rt,
+        "KEYS EQUALS 15\nCELL EQUALS 15\n EXTEND\n READ KEYS\n CA CELL\n ADRES KEYS\n EXTEND\n READ L\n CA L\n",
+        "4000 00006\n4001 00015\n4002 30015\n4003 00015\n4004 00006\n4005 00001\n4006 30001\n",
+    );
+    for (line, source) in [
+        (2, "LAMP EQUALS 11\n CAE LAMP\n EXTEND\n WRITE LAMP\n"),
+        (4, "KEYS EQUALS 15\n EXTEND\n READ KEYS\n INDEX KEYS +1\n"),
+        (
+            5,
+            "KEYS EQUALS 15\n EXTEND\n READ KEYS +1\n EXTEND\n DCA KEYS\n",
+        ),
+    ] {
+        refuses(&rt, line, SourceFault::ChannelName, source);
+    }
 }

@@ -8,7 +8,6 @@ use agc_analysis::{
     status_of_trace_error, text_of_rope, watch_files, weave_text, write_outcome, write_report,
 };
 use agc_asm::{AssemblyFault, SourceFault};
-use agc_diff::SideNames;
 use agc_io::NoProgress;
 use agc_listing::{LineFault, Report};
 use agc_load::{LoadFault, RunFiles};
@@ -16,6 +15,7 @@ use agc_store::{RopeFault, RopeForm};
 use agc_study_args::{
     CompareArgs, FilmArgs, JobsArgs, ListArgs, ListStyle, ReadFile, RunInputs, RunOptions,
 };
+use agc_text::SideNames;
 use agc_trace::{LineForm, Span};
 use std::io::{self, ErrorKind, Read};
 use std::process::Abort;
@@ -120,6 +120,10 @@ fn mistakes(rt: HostRuntime) {
         "agc-study repair rope --most many",
         "agc-study repair rope --form classic",
         "agc-study patch rope",
+        "agc-study patch rope --sum 44",
+        "agc-study sums",
+        "agc-study merge one",
+        "agc-study merge one two --form parity",
         "agc-study compare --words rope",
         "agc-study compare --words rope rope --limit 10",
         "agc-study compare --words rope --limit 10 rope",
@@ -275,6 +279,8 @@ fn listed(rt: &impl AllocGlobal, rope: &[u8], style: ListStyle) -> Result<Vec<u8
         names: None,
         style,
         ignores_parity: false,
+        shows_zeros: false,
+        first_bank: None,
     };
     let mut rope = rope;
     let form = LineForm::new(rt.alloc(), None, None);
@@ -418,7 +424,7 @@ fn keys_and_listings_are_checked(rt: HostRuntime) {
             b"VERB 33",
             b"4000 1400",
             "keys: BadKey\n    word 2: unknown key `33`; did you mean `3`?\n",
-            "text line 1: BadWord\n    4000 1400\n    column 6: `1400` is not a word: five octal digits\n",
+            "text line 1: after a place comes its word: five octal digits\n    4000 1400\n    column 6: `1400` is not a word: five octal digits\n",
         ),
     ];
     for (keys, listing, keys_reported, listing_reported) in texts {

@@ -78,6 +78,7 @@ fn a_lost_line_and_a_wrong_digit(rt: HostRuntime) {
         lined(&rt, second),
         "02,4103 (line 7) moved to 02,4102 (line 5): 11 words
 02,4101: 54101 TS 0101 (line 5) | 54110 TS 0110 (line 4)
+02,4102: 30102 CA 0102 (line 6) | 60103 AD 0103 (line 5)
 bank 02: 13 words differ
 ",
     );
