@@ -3,6 +3,7 @@
 
 mod error;
 mod saving;
+mod sentences;
 mod words;
 
 use agc_cli::{ArgsFault, exit_usage, parse_env};
@@ -13,7 +14,8 @@ use agc_session::{Session, open_session};
 use agc_symbols::{SymbolTable, names_at};
 use error::Error;
 use saving::FileSaver;
-use std::io::{Read, Write};
+use sentences::Sentences;
+use std::io::{IsTerminal, Read, Write};
 use std::process::ExitCode;
 use std::rt::Files;
 use words::Console;
@@ -28,7 +30,7 @@ fn main(rt: HostRuntime) -> ExitCode {
 /// Runs a session over the two files of the command line, with the commands of `commands`. Answers go to `out`, and
 /// so does the text of help, with status 0. An error goes to `err` in one line, with status 1, and a usage error with
 /// status 2. A failed write gives status 3.
-fn run<R, C: Read, W: Write, E: Write>(
+fn run<R, C: Read, W: Write + IsTerminal, E: Write>(
     rt: &R,
     requested: Result<Console, ArgsFault>,
     commands: &mut C,
@@ -41,13 +43,31 @@ where
     match requested {
         Ok(requested) => match open_all(rt, &requested) {
             Ok((session, names)) => {
-                let mut saver = FileSaver { rt };
-                let ended = run_repl(rt.alloc(), session, &names, commands, out, &mut saver);
-                status_after(ended, err)
+                status_after(answer_all(rt, session, &names, commands, out), err)
             }
             Err(error) => status_of(REFUSED, error.write_to(err)),
         },
         Err(fault) => exit_usage("agc-console", fault, REFUSED, out, err),
+    }
+}
+
+/// Answers the commands; on a terminal errors are sentences without names.
+fn answer_all<R, C: Read, W: Write + IsTerminal>(
+    rt: &R,
+    session: Session,
+    names: &Option<SymbolTable>,
+    commands: &mut C,
+    out: &mut W,
+) -> Result<(), ReplFault>
+where
+    R: Files + AllocGlobal,
+{
+    let mut saver = FileSaver { rt };
+    if out.is_terminal() {
+        let mut shown = Sentences::new(out);
+        run_repl(rt.alloc(), session, names, commands, &mut shown, &mut saver)
+    } else {
+        run_repl(rt.alloc(), session, names, commands, out, &mut saver)
     }
 }
 

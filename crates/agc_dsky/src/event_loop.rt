@@ -280,7 +280,7 @@ impl EventLoop {
             return Some(none_before_stop(target));
         }
         let next = end.min(self.operator.cycle().saturating_add(CHUNK));
-        match self.operator.seek(target.breakpoint(), next) {
+        match self.operator.seek(target.condition(), next) {
             Ok(true) => Some(found_ahead(target)),
             Ok(false) if end <= self.operator.cycle() => Some(none_ahead(target)),
             Ok(false) => None,
@@ -372,7 +372,7 @@ impl EventLoop {
     ) -> EventLoop {
         let (operator, found) = self
             .operator
-            .back_to_last(alloc, target.breakpoint(), cancellation);
+            .back_to_last(alloc, target.condition(), cancellation);
         let mut event_loop = EventLoop { operator, ..self };
         event_loop.presses = event_loop.operator.presses();
         match found {

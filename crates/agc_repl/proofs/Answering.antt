@@ -1,5 +1,5 @@
 -- How the parts of an answer make up the whole.
-use Rattle.std.specs.Prelude.{◌≡◌, ◌≢◌, ℕ, ◌+◌, ◌==◌, nat_le, Bool, true, false, List, [], ◌++◌, length, Option, None, Some, Result, Ok, Err, IfOk, IfSome, MatchResult, OnOk, IsErrOf, codes, flat_map, if◌then◌else◌}
+use Rattle.std.specs.Prelude.{◌≡◌, ◌≢◌, ℕ, ◌+◌, ◌==◌, nat_le, Bool, true, false, List, [], ◌∷◌, ◌++◌, length, Option, None, Some, Result, Ok, Err, IfOk, IfSome, MatchResult, OnOk, IsErrOf, codes, flat_map, if◌then◌else◌}
 use Rattle.std.specs.Io.KnownBytes.{Appends, append_known}
 use Rattle.std.proofs.Common.{refl, ap, sym, subst, ◌∙◌, inl, inr}
 use Rattle.std.proofs.KnownBytes.{Appends-trans}
@@ -7,25 +7,23 @@ use Rattle.std.proofs.lemmas.Bool.{eq-eqb, eqb-true}
 use Rattle.agc_repl.specs.Fault.{fault_text_with}
 use Rattle.agc_repl.specs.declared.command.Command.{Command}
 use Rattle.agc_repl.specs.declared.command.Command.TheVariants as command
-use Rattle.agc_repl.specs.declared.command.Breakpoint.{Breakpoint}
-use Rattle.agc_repl.specs.declared.command.Trigger.{Trigger}
+use Rattle.agc_repl.specs.declared.command.Rewind.{Rewind}
 use Rattle.agc_repl.specs.declared.fault.CommandFault.{CommandFault}
-use Rattle.agc_repl.specs.Command.{IsTriggerInRange, IsCommandInRange}
+use Rattle.agc_repl.specs.Command.{IsBreakpointInRange, IsCommandInRange}
 use Rattle.agc_script.specs.Event.{IsWhatInRange, most_events}
 use Rattle.agc_script.specs.declared.event.What.{What}
+use Rattle.agc_session.specs.Condition.{armed_in}
 use Rattle.agc_session.specs.Session.{injected_now}
+use Rattle.agc_session.specs.declared.condition.Condition.{Condition}
 use Rattle.agc_session.specs.declared.fault.InjectFault.{InjectFault}
 use Rattle.agc_session.specs.declared.fault.InjectFault.TheVariants as fault
 use Rattle.agc_trace.specs.NamedLine.{line_with}
 use Rattle.agc_trace.specs.Trace.{trace_within}
 use Rattle.agc_repl.specs.Answer.{error_line}
-use Rattle.agc_repl.specs.Answered.{Answer, Begins, GoesBack, IsAnswered, IsLeft, IsPartOf, IsPlain, IsPlainRequest, Request, RunsOut, Sets, Outputs, ahead_text, answer_to, answered, back_answer, break_answer, breakpoint_set, cycles_on, delete_answer, done, ended, full_text, given_answer, last_line, missing_text, quiet_answer, refusal_text, refused_by, shown_course, shown_until, shown_stretch}
-use Rattle.agc_repl.specs.Course.{all_armed, course_to}
+use Rattle.agc_repl.specs.Answered.{Answer, Begins, GoesBack, IsAnswered, IsLeft, IsPartOf, IsPlain, IsPlainRequest, Request, RunsOut, Sets, Outputs, ahead_text, answer_to, answered, back_answer, break_answer, breakpoint_set, cycles_on, delete_answer, done, dropped_text, ended, full_text, given_answer, last_line, missing_text, quiet_answer, refusal_text, refused_by, shown_continue, shown_run, shown_until, went_back}
 use Rattle.agc_repl.specs.Queries.{shown_text}
 use Rattle.agc_repl.specs.Settings.{breakpoint_line, has_number, is_full, next_numbered, with_breakpoint, without_number}
-use Rattle.agc_repl.specs.Repl.{after_boundaries, after_due, gone_back, takes_event}
-use Rattle.agc_repl.specs.Stretch.{armed_in, stretch_to}
-use Rattle.agc_repl.specs.declared.armed_breakpoint.ArmedBreakpoint.TheVariants as armed
+use Rattle.agc_repl.specs.Repl.{after_boundaries, after_due, all_armed, gone_back, run_of, takes_event}
 use Rattle.agc_repl.specs.declared.conversation.ReplFault.{ReplFault}
 use Rattle.agc_repl.specs.declared.repl.Repl.{Repl}
 use Rattle.agc_repl.proofs.Going.{stays_run}
@@ -44,8 +42,8 @@ reports_end a t begun o old new h e =
 answered_plain : (names : Option (List Symbol)) (c : Command) (s : Repl) → IsPlain c → answered names c s ≡ ended (done names c s)
 unfolding answered
 answered_plain names (command.Inject what) s h = absurd h
-answered_plain names (command.Back cut cycle) s h = absurd h
-answered_plain names (command.BackTo what count) s h = absurd h
+answered_plain names (command.Back way) s h = absurd h
+answered_plain names (command.BackTo search) s h = absurd h
 answered_plain names (command.Break what) s h = absurd h
 answered_plain names (command.Delete number) s h = absurd h
 answered_plain names (command.Quiet quiet) s h = absurd h
@@ -141,11 +139,11 @@ begins_as a b old from now e h = rw e h
 
 -- what each command does
 pub done_go : (names : Option (List Symbol)) (c : Command) (cycles end : ℕ) (s : Repl) → c ≡ command.Go cycles → end ≡ cycles_on cycles s
-    → done names c s ≡ shown_stretch (stretch_to armed.Nothing end s.session.now) s
+    → done names c s ≡ shown_run (run_of [] end s) s
 unfolding done
 done_go names c cycles end s e f = rw f (ap (λ (x : Command). done names x s) e)
 
-pub done_to : (names : Option (List Symbol)) (c : Command) (cycle : ℕ) (s : Repl) → c ≡ command.GoTo cycle → done names c s ≡ shown_stretch (stretch_to armed.Nothing cycle s.session.now) s
+pub done_to : (names : Option (List Symbol)) (c : Command) (cycle : ℕ) (s : Repl) → c ≡ command.GoTo cycle → done names c s ≡ shown_run (run_of [] cycle s) s
 unfolding done
 done_to names c cycle s e = ap (λ (x : Command). done names x s) e
 
@@ -154,24 +152,25 @@ pub done_step : (names : Option (List Symbol)) (c : Command) (boundaries : ℕ) 
 unfolding done
 done_step names c boundaries s e = ap (λ (x : Command). done names x s) e
 
-pub done_until : (names : Option (List Symbol)) (c : Command) (what : Breakpoint) (within : ℕ) (s : Repl) → c ≡ command.Until what within
-    → done names c s ≡ shown_until (stretch_to (armed_in s.session.now what) (cycles_on within s) s.session.now) s
+pub done_until : (names : Option (List Symbol)) (c : Command) (what : Condition) (within : ℕ) (s : Repl) → c ≡ command.Until what within
+    → done names c s ≡ shown_until (run_of (armed_in s.session.now 0 what ∷ []) (cycles_on within s) s) s
 unfolding done
 done_until names c what within s e = ap (λ (x : Command). done names x s) e
 
 pub done_shown : (names : Option (List Symbol)) (c : Command) (s : Repl) → ((cycles : ℕ) → c ≡ command.Go cycles → ⊥) → ((cycle : ℕ) → c ≡ command.GoTo cycle → ⊥)
-    → ((boundaries : ℕ) → c ≡ command.Step boundaries → ⊥) → ((what : Breakpoint) (within : ℕ) → c ≡ command.Until what within → ⊥)
-    → ((within : ℕ) → c ≡ command.Continue within → ⊥) → done names c s ≡ (s, shown_text names c s)
+    → ((boundaries : ℕ) → c ≡ command.Step boundaries → ⊥) → ((what : Condition) (within : ℕ) → c ≡ command.Until what within → ⊥)
+    → ((within : ℕ) → c ≡ command.Continue within → ⊥) → ((boundaries : ℕ) → c ≡ command.Ahead boundaries → ⊥) → done names c s ≡ (s, shown_text names c s)
 unfolding done
-done_shown names (command.Go cycles) s a b d e f = absurd (a cycles refl)
-done_shown names (command.GoTo cycle) s a b d e f = absurd (b cycle refl)
-done_shown names (command.Step boundaries) s a b d e f = absurd (d boundaries refl)
-done_shown names (command.Until what within) s a b d e f = absurd (e what within refl)
-done_shown names (command.Continue within) s a b d e f = absurd (f within refl)
-done_shown names c s a b d e f = refl
+done_shown names (command.Go cycles) s a b d e f g = absurd (a cycles refl)
+done_shown names (command.GoTo cycle) s a b d e f g = absurd (b cycle refl)
+done_shown names (command.Step boundaries) s a b d e f g = absurd (d boundaries refl)
+done_shown names (command.Until what within) s a b d e f g = absurd (e what within refl)
+done_shown names (command.Continue within) s a b d e f g = absurd (f within refl)
+done_shown names (command.Ahead boundaries) s a b d e f g = absurd (g boundaries refl)
+done_shown names c s a b d e f g = refl
 
 pub changes_nothing : (c : Command) (s : Repl) → IsPlain c → ((cycles : ℕ) → c ≡ command.Go cycles → ⊥) → ((cycle : ℕ) → c ≡ command.GoTo cycle → ⊥)
-    → ((boundaries : ℕ) → c ≡ command.Step boundaries → ⊥) → ((what : Breakpoint) (within : ℕ) → c ≡ command.Until what within → ⊥)
+    → ((boundaries : ℕ) → c ≡ command.Step boundaries → ⊥) → ((what : Condition) (within : ℕ) → c ≡ command.Until what within → ⊥)
     → ((within : ℕ) → c ≡ command.Continue within → ⊥) → IsPartOf c s s
 changes_nothing (command.Go cycles) s h a b d e f = absurd (a cycles refl)
 changes_nothing (command.GoTo cycle) s h a b d e f = absurd (b cycle refl)
@@ -182,7 +181,7 @@ changes_nothing (command.Inject what) s h a b d e f = absurd h
 changes_nothing c s h a b d e f = refl
 
 pub done_continue : (names : Option (List Symbol)) (c : Command) (within : ℕ) (s : Repl) → c ≡ command.Continue within
-    → done names c s ≡ shown_course (course_to (all_armed s) (cycles_on within s) s) s
+    → done names c s ≡ shown_continue (run_of (all_armed s) (cycles_on within s) s) s
 unfolding done
 done_continue names c within s e = ap (λ (x : Command). done names x s) e
 
@@ -192,26 +191,26 @@ if_reached there x y e = rw e refl
 if_ahead : (there : Bool) (x y : Answer) → there ≡ false → (if there then x else y) ≡ y
 if_ahead there x y e = rw e refl
 
-answered_back : (names : Option (List Symbol)) (cut cycle : ℕ) (s : Repl) → nat_le cycle s.session.now.cycle ≡ true
-    → answer_to names (Ok (Some (command.Back cut cycle))) s ≡ ended (gone_back cut cycle s, [])
+answered_back : (names : Option (List Symbol)) (way : Rewind) (s : Repl) → nat_le way.cycle s.session.now.cycle ≡ true
+    → answer_to names (Ok (Some (command.Back way))) s ≡ ended (went_back way s)
 unfolding answer_to answered back_answer
-answered_back names cut cycle s e = if_reached (nat_le cycle s.session.now.cycle) _ _ e
+answered_back names way s e = if_reached (nat_le way.cycle s.session.now.cycle) _ _ e
 
-answered_ahead : (names : Option (List Symbol)) (cut cycle : ℕ) (s : Repl) → nat_le cycle s.session.now.cycle ≡ false
-    → answer_to names (Ok (Some (command.Back cut cycle))) s ≡ (s, error_line ahead_text)
+answered_ahead : (names : Option (List Symbol)) (way : Rewind) (s : Repl) → nat_le way.cycle s.session.now.cycle ≡ false
+    → answer_to names (Ok (Some (command.Back way))) s ≡ (s, error_line ahead_text)
 unfolding answer_to answered back_answer
-answered_ahead names cut cycle s e = if_ahead (nat_le cycle s.session.now.cycle) _ _ e
+answered_ahead names way s e = if_ahead (nat_le way.cycle s.session.now.cycle) _ _ e
 
 -- `back` went there, or did nothing
-pub back_reported : (names : Option (List Symbol)) (cut cycle : ℕ) (s t : Repl) (old new : Option (List ℕ)) → nat_le cycle s.session.now.cycle ≡ true → GoesBack cut cycle s t old new
-    → IsAnswered names (Ok (Some (command.Back cut cycle))) s t old new
-back_reported names cut cycle s t old new e (inl h) = inl (reports_same _ _ t old new (answered_back names cut cycle s e) h)
-back_reported names cut cycle s t old new e (inr h) =
-    inr (ran_out names (Ok (Some (command.Back cut cycle))) s t [] old old new h.0 refl (nothing_begun _ old) h.1)
+pub back_reported : (names : Option (List Symbol)) (way : Rewind) (s t : Repl) (old new : Option (List ℕ)) → nat_le way.cycle s.session.now.cycle ≡ true → GoesBack way s t old new
+    → IsAnswered names (Ok (Some (command.Back way))) s t old new
+back_reported names way s t old new e (inl h) = inl (reports_same _ _ t old new (answered_back names way s e) h)
+back_reported names way s t old new e (inr h) =
+    inr (ran_out names (Ok (Some (command.Back way))) s t [] old old new h.0 refl (nothing_begun _ old) h.1)
 
-pub ahead_reported : (names : Option (List Symbol)) (cut cycle : ℕ) (s t : Repl) (old new : Option (List ℕ)) → nat_le cycle s.session.now.cycle ≡ false
-    → (t ≡ s) × Appends old new (error_line ahead_text) → IsAnswered names (Ok (Some (command.Back cut cycle))) s t old new
-ahead_reported names cut cycle s t old new e h = inl (reports_same _ _ t old new (answered_ahead names cut cycle s e) h)
+pub ahead_reported : (names : Option (List Symbol)) (way : Rewind) (s t : Repl) (old new : Option (List ℕ)) → nat_le way.cycle s.session.now.cycle ≡ false
+    → (t ≡ s) × Appends old new (error_line ahead_text) → IsAnswered names (Ok (Some (command.Back way))) s t old new
+ahead_reported names way s t old new e h = inl (reports_same _ _ t old new (answered_ahead names way s e) h)
 
 -- a part of an answer that is not yet written
 pub reports_waiting : (a : Answer) (t : Repl) (o : Option (List ℕ)) (old new : List ℕ) → t ≡ a.0 → new ≡ old ++ a.1 → Outputs a t (append_known o old) (append_known o new)
@@ -241,9 +240,11 @@ given_is what s t e takes room =
 pub line_is : (old new line other : List ℕ) → new ≡ old ++ line → line ≡ other → new ≡ old ++ other
 line_is old new line other h e = h ∙ ap (λ (x : List ℕ). old ++ x) e
 
--- the last line of the answer to `back`
-pub end_written : (cut cycle : ℕ) (s t : Repl) (a b : Option (List ℕ)) → t ≡ gone_back cut cycle s → Appends a b (last_line t) → Outputs (ended (gone_back cut cycle s, [])) t a b
-end_written cut cycle s t a b e h = (e, subst (λ (u : Repl). Appends a b (last_line u)) e h)
+-- the lines of the answer to `back`
+pub back_written : (way : Rewind) (s t : Repl) (dropped lines : List ℕ) (a b : Option (List ℕ)) → t ≡ gone_back way.cut way.cycle s → dropped ≡ dropped_text way s.session
+    → lines ≡ dropped → Appends a b (lines ++ last_line t) → Outputs (ended (went_back way s)) t a b
+back_written way s t dropped lines a b e f g h =
+    (e, subst (λ (xs : List ℕ). Appends a b (xs ++ last_line (gone_back way.cut way.cycle s))) (g ∙ f) (subst (λ (u : Repl). Appends a b (lines ++ last_line u)) e h))
 
 -- an event that was injected, or rejected
 pub event_given : (names : Option (List Symbol)) (what : What) (s t : Repl) (old new : Option (List ℕ)) → (t ≡ (given_answer what s).0) × (last_line t ≡ (given_answer what s).1)
@@ -294,21 +295,21 @@ when_left Q (Ok left) h f = f left h
 when_left Q (Err why) h f = tt
 
 -- a breakpoint that was set or not
-answered_full : (names : Option (List Symbol)) (what : Trigger) (s : Repl) → is_full s.settings ≡ true
+answered_full : (names : Option (List Symbol)) (what : Condition) (s : Repl) → is_full s.settings ≡ true
     → answer_to names (Ok (Some (command.Break what))) s ≡ (s, error_line full_text)
 unfolding answer_to answered break_answer
 answered_full names what s e = if_reached (is_full s.settings) _ _ e
 
-answered_set : (names : Option (List Symbol)) (what : Trigger) (s : Repl) → is_full s.settings ≡ false
+answered_set : (names : Option (List Symbol)) (what : Condition) (s : Repl) → is_full s.settings ≡ false
     → answer_to names (Ok (Some (command.Break what))) s ≡ breakpoint_set what s
 unfolding answer_to answered break_answer
 answered_set names what s e = if_ahead (is_full s.settings) _ _ e
 
-pub full_reported : (names : Option (List Symbol)) (what : Trigger) (s : Repl) (old new : Option (List ℕ)) → is_full s.settings ≡ true
+pub full_reported : (names : Option (List Symbol)) (what : Condition) (s : Repl) (old new : Option (List ℕ)) → is_full s.settings ≡ true
     → Appends old new (error_line full_text) → IsAnswered names (Ok (Some (command.Break what))) s s old new
 full_reported names what s old new e h = inl (reports_same _ _ s old new (answered_full names what s e) (refl, h))
 
-pub set_reported : (names : Option (List Symbol)) (what : Trigger) (s t : Repl) (old new : Option (List ℕ)) → is_full s.settings ≡ false
+pub set_reported : (names : Option (List Symbol)) (what : Condition) (s t : Repl) (old new : Option (List ℕ)) → is_full s.settings ≡ false
     → Sets what s t old new → IsAnswered names (Ok (Some (command.Break what))) s t old new
 set_reported names what s t old new e (inl h) = inl (reports_same _ _ t old new (answered_set names what s e) h)
 set_reported names what s t old new e (inr h) =
@@ -345,11 +346,11 @@ pub quiet_reported : (names : Option (List Symbol)) (quiet : Bool) (s t : Repl) 
 quiet_reported names quiet s t old new f h =
     inl (reports_same _ _ t old new (answered_quiet names quiet s) (f, subst (λ (u : Repl). Appends old new (last_line u)) f h))
 
-pub set_written : (what : Trigger) (s t : Repl) (text shown : List ℕ) (old new : Option (List ℕ)) → t ≡ record s { settings = with_breakpoint what s.settings }
+pub set_written : (what : Condition) (s t : Repl) (text shown : List ℕ) (old new : Option (List ℕ)) → t ≡ record s { settings = with_breakpoint what s.settings }
     → text ≡ breakpoint_line (next_numbered what s.settings) ++ last_line s → shown ≡ text → Appends old new shown → Sets what s t old new
 set_written what s t text shown old new e f h k = inl (e, subst (Appends old new) (h ∙ f) k)
 
-pub breakpoint_in_range : (request : Request) (parsed : Option Command) (c : Command) (what : Trigger) → request ≡ Ok parsed → parsed ≡ Some c → c ≡ command.Break what
-    → IfOk request (λ read. IfSome read IsCommandInRange) → IsTriggerInRange what
+pub breakpoint_in_range : (request : Request) (parsed : Option Command) (c : Command) (what : Condition) → request ≡ Ok parsed → parsed ≡ Some c → c ≡ command.Break what
+    → IfOk request (λ read. IfSome read IsCommandInRange) → IsBreakpointInRange what
 unfolding IsCommandInRange
 breakpoint_in_range request parsed c what e f h k = rw (e, f, h) at k

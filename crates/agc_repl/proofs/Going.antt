@@ -18,7 +18,7 @@ use Rattle.agc_script.specs.declared.event.Event.{Event}
 use Rattle.agc_session.specs.Session.{HasGone, SessionState}
 use Rattle.agc_repl.specs.Repl.{Advances, GoesOn, RunsOn, counted, gone_on, noted, turns_unless}
 use Rattle.agc_repl.specs.Settings.{SettingsState}
-use Rattle.agc_repl.specs.Stretch.{is_short_of}
+use Rattle.agc_repl.specs.Run.{is_short_of}
 use Rattle.agc_repl.specs.declared.repl.Repl.{Repl}
 
 pub no_more : (stopped : Option Stop) (turns : ℕ) → turns_unless stopped turns ≤ turns

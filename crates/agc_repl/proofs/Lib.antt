@@ -1,8 +1,8 @@
+pub mod Remaining
 pub mod Ascii
 pub mod Beginning
 pub mod Answering
 pub mod Cells
-pub mod Courses
 pub mod Due
 pub mod Going
 pub mod Input
@@ -11,5 +11,5 @@ pub mod Nearby
 pub mod Sessions
 pub mod Stepping
 pub mod Telling
-pub mod Ways
+pub mod Runs
 pub mod Backwards

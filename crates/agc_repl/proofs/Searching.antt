@@ -6,12 +6,13 @@ use Rattle.agc_repl.specs.Answered.{IsAnswered, IsHandled, IsItself, Means, Requ
 use Rattle.agc_repl.specs.Command.{IsCommandInRange}
 use Rattle.agc_repl.specs.declared.command.Command.{Command}
 use Rattle.agc_repl.specs.declared.command.Command.TheVariants as command
+use Rattle.agc_repl.specs.declared.command.Search.{Search}
 use Rattle.agc_repl.specs.declared.fault.CommandFault.{CommandFault}
 use Rattle.agc_repl.specs.declared.file_name.FileName.{FileName}
 use Rattle.agc_repl.specs.declared.repl.Repl.{Repl}
 use Rattle.agc_repl.specs.declared.saver.SaveFault.{SaveFault}
-use Rattle.agc_session.specs.Breakpoint.{IsBreakpointInRange as IsSoughtInRange, IsFoundBack}
-use Rattle.agc_session.specs.declared.breakpoint.Breakpoint.{Breakpoint as SessionBreakpoint}
+use Rattle.agc_session.specs.Condition.{IsConditionInRange, IsFoundBack}
+use Rattle.agc_session.specs.declared.condition.Condition.{Condition}
 use Rattle.agc_repl.proofs.Answering.{ran_out}
 use Rattle.agc_repl.proofs.Beginning.{nothing_begun}
 use Rattle.agc_symbols.specs.Symbols.{Symbol}
@@ -21,7 +22,7 @@ unfolding request_saved
 saved_means name = refl
 
 means_itself : (request : Request) (s : Repl) → IsItself request → Means request s request
-means_itself (Ok (Some (command.BackTo what count))) s h = absurd h
+means_itself (Ok (Some (command.BackTo search))) s h = absurd h
 means_itself (Ok (Some (command.Save name))) s h = (Ok tt, saved_means name)
 means_itself request s h = refl
 
@@ -30,20 +31,24 @@ pub handled_itself : (names : Option (List Symbol)) (request : Request) (s t : R
 handled_itself names request s t old new h k = inl (request, means_itself request s h, k)
 
 -- a search back found a cycle, or none, or memory ran out
-pub found_handled : (names : Option (List Symbol)) (what : SessionBreakpoint) (count cut cycle : ℕ) (s t : Repl) (old new : Option (List ℕ)) → cut ≡ cycle_after cycle
-    → IsFoundBack what count s.session (Some cycle)
-    → IsAnswered names (Ok (Some (command.Back cut cycle))) s t old new → IsHandled names (Ok (Some (command.BackTo what count))) s t old new
-found_handled names what count cut cycle s t old new e h k =
-    inl (Ok (Some (command.Back cut cycle)), (Some cycle, h, ap (λ (x : ℕ). Ok (Some (command.Back x cycle))) e), k)
+pub found_handled : (names : Option (List Symbol)) (search : Search) (cut cycle : ℕ) (s t : Repl) (old new : Option (List ℕ)) → cut ≡ cycle_after cycle
+    → IsFoundBack search.what search.count s.session (Some cycle)
+    → IsAnswered names (Ok (Some (command.Back (record { cut = cut; cycle = cycle; lists = search.lists })))) s t old new
+    → IsHandled names (Ok (Some (command.BackTo search))) s t old new
+found_handled names search cut cycle s t old new e h k = inl (
+  Ok (Some (command.Back (record { cut = cut; cycle = cycle; lists = search.lists }))),
+  (Some cycle, h, ap (λ (x : ℕ). Ok (Some (command.Back (record { cut = x; cycle = cycle; lists = search.lists })))) e),
+  k,
+)
 
-pub missed_handled : (names : Option (List Symbol)) (what : SessionBreakpoint) (count : ℕ) (s t : Repl) (old new : Option (List ℕ)) → IsFoundBack what count s.session None
-    → IsAnswered names (Err (missed what)) s t old new → IsHandled names (Ok (Some (command.BackTo what count))) s t old new
-missed_handled names what count s t old new h k = inl (Err (missed what), (None, h, refl), k)
+pub missed_handled : (names : Option (List Symbol)) (search : Search) (s t : Repl) (old new : Option (List ℕ)) → IsFoundBack search.what search.count s.session None
+    → IsAnswered names (Err (missed search.what)) s t old new → IsHandled names (Ok (Some (command.BackTo search))) s t old new
+missed_handled names search s t old new h k = inl (Err (missed search.what), (None, h, refl), k)
 
-pub short_handled : (names : Option (List Symbol)) (what : SessionBreakpoint) (count : ℕ) (s t : Repl) (old new : Option (List ℕ))
-    → (t ≡ s) × Appends old new (codes "error: memory\n") → IsHandled names (Ok (Some (command.BackTo what count))) s t old new
-short_handled names what count s t old new h =
-    inr (ran_out names (Ok (Some (command.BackTo what count))) s t [] old old new h.0 refl (nothing_begun _ old) h.1)
+pub short_handled : (names : Option (List Symbol)) (search : Search) (s t : Repl) (old new : Option (List ℕ))
+    → (t ≡ s) × Appends old new (codes "error: memory\n") → IsHandled names (Ok (Some (command.BackTo search))) s t old new
+short_handled names search s t old new h =
+    inr (ran_out names (Ok (Some (command.BackTo search))) s t [] old old new h.0 refl (nothing_begun _ old) h.1)
 
 -- a script was saved, or not
 pub save_itself : (request : Request) (name : FileName) (saved : Result (Unit {0}) SaveFault) → request ≡ request_saved name saved → IsItself request
@@ -62,19 +67,19 @@ pub save_handled : (names : Option (List Symbol)) (request : Request) (name : Fi
 save_handled names request name saved s t old new e k = inl (request, (saved, e), k)
 
 -- what the arms of a match know
-pub found_as : (what : SessionBreakpoint) (count : ℕ) (s : Repl) (parsed found : Option ℕ) → parsed ≡ found → IsFoundBack what count s.session parsed → IsFoundBack what count s.session found
+pub found_as : (what : Condition) (count : ℕ) (s : Repl) (parsed found : Option ℕ) → parsed ≡ found → IsFoundBack what count s.session parsed → IsFoundBack what count s.session found
 found_as what count s parsed found e h = subst (IsFoundBack what count s.session) e h
 
 pub fault_as : (names : Option (List Symbol)) (a b : CommandFault) (s t : Repl) (old new : Option (List ℕ)) → a ≡ b
     → IsAnswered names (Err a) s t old new → IsAnswered names (Err b) s t old new
 fault_as names a b s t old new e h = subst (λ (why : CommandFault). IsAnswered names (Err why) s t old new) e h
 
-pub search_in_range : (request : Request) (parsed : Option Command) (c : Command) (what : SessionBreakpoint) (count : ℕ) → request ≡ Ok parsed → parsed ≡ Some c → c ≡ command.BackTo what count
-    → IfOk request (λ read. IfSome read IsCommandInRange) → (0 < count) × IsSoughtInRange what
+pub search_in_range : (request : Request) (parsed : Option Command) (c : Command) (search : Search) → request ≡ Ok parsed → parsed ≡ Some c → c ≡ command.BackTo search
+    → IfOk request (λ read. IfSome read IsCommandInRange) → (0 < search.count) × IsConditionInRange search.what
 unfolding IsCommandInRange
-search_in_range request parsed c what count e f h k = rw (e, f, h) at k
+search_in_range request parsed c search e f h k = rw (e, f, h) at k
 
-pub handled_as : (names : Option (List Symbol)) (request : Request) (parsed : Option Command) (c : Command) (what : SessionBreakpoint) (count : ℕ) (s t : Repl) (old new : Option (List ℕ)) → request ≡ Ok parsed
-    → parsed ≡ Some c → c ≡ command.BackTo what count → IsHandled names (Ok (Some (command.BackTo what count))) s t old new → IsHandled names request s t old new
-handled_as names request parsed c what count s t old new e f h k =
+pub handled_as : (names : Option (List Symbol)) (request : Request) (parsed : Option Command) (c : Command) (search : Search) (s t : Repl) (old new : Option (List ℕ)) → request ≡ Ok parsed
+    → parsed ≡ Some c → c ≡ command.BackTo search → IsHandled names (Ok (Some (command.BackTo search))) s t old new → IsHandled names request s t old new
+handled_as names request parsed c search s t old new e f h k =
     subst (λ (r : Request). IsHandled names r s t old new) (sym (e ∙ ap Ok (f ∙ ap Some h))) k

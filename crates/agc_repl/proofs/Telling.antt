@@ -8,7 +8,7 @@ use Rattle.agc_machine.specs.Replay.{writes_in}
 use Rattle.agc_machine.specs.declared.answer.Stepped.{Stepped}
 use Rattle.agc_machine.specs.declared.answer.Stepped.TheVariants as stepped
 use Rattle.agc_repl.specs.Answered.{Grows}
-use Rattle.agc_repl.specs.Stretch.{run_line, writes_text}
+use Rattle.agc_repl.specs.Run.{run_line, writes_text}
 use Rattle.agc_repl.specs.declared.conversation.ReplFault.{ReplFault}
 use Rattle.agc_repl.specs.declared.conversation.ReplFault.TheVariants as fault
 

@@ -1,29 +1,29 @@
 -- The answer to each request: the state that it leads to and the lines it prints.
-use Rattle.std.specs.Prelude.{◌≡◌, ◌⊎◌, ℕ, ◌+◌, ◌-◌, ◌^◌, ◌==◌, nat_le, min, length, Bool, List, [], ◌++◌, Option, None, Some, Result, Ok, Err, if◌then◌else◌, codes, flat_map}
+use Rattle.std.specs.Prelude.{◌≡◌, ◌⊎◌, ℕ, ◌+◌, ◌-◌, ◌^◌, ◌==◌, nat_le, min, length, is_some, Bool, List, [], ◌∷◌, ◌++◌, Option, None, Some, Result, Ok, Err, if◌then◌else◌, codes, flat_map}
 use Rattle.std.specs.Io.KnownBytes.{Appends}
 use Rattle.agc_repl.specs.Fault.{fault_text_with}
 use Rattle.agc_repl.specs.declared.command.Command.{Command}
+use Rattle.agc_repl.specs.declared.command.Rewind.{Rewind}
+use Rattle.agc_repl.specs.declared.command.Search.{Search}
 use Rattle.agc_repl.specs.declared.command.Command.TheVariants as command
 use Rattle.agc_repl.specs.declared.fault.CommandFault.{CommandFault}
 use Rattle.agc_repl.specs.declared.fault.CommandFault.TheVariants as invalid
 use Rattle.agc_script.specs.Event.{most_events}
 use Rattle.agc_script.specs.declared.event.What.{What}
-use Rattle.agc_session.specs.Breakpoint.{IsFoundBack}
-use Rattle.agc_session.specs.Session.{injected_now}
-use Rattle.agc_session.specs.declared.breakpoint.Breakpoint.{Breakpoint as SessionBreakpoint}
-use Rattle.agc_session.specs.declared.breakpoint.Breakpoint.TheVariants as sought
+use Rattle.agc_session.specs.Condition.{IsFoundBack, armed_in}
+use Rattle.agc_session.specs.Session.{SessionState, discarded, injected_now}
+use Rattle.agc_script.specs.Written.{script_text}
+use Rattle.agc_session.specs.declared.condition.Condition.{Condition}
+use Rattle.agc_session.specs.declared.condition.Condition.TheVariants as condition
 use Rattle.agc_session.specs.declared.fault.InjectFault.{InjectFault}
 use Rattle.agc_session.specs.declared.fault.InjectFault.TheVariants as fault
 use Rattle.agc_trace.specs.NamedLine.{line_with}
 use Rattle.agc_trace.specs.Trace.{trace_within}
 use Rattle.agc_repl.specs.Answer.{hit_line, end_line, error_line}
-use Rattle.agc_repl.specs.Course.{Course, all_armed, course_to, stop_line}
 use Rattle.agc_repl.specs.Queries.{shown_text}
 use Rattle.agc_repl.specs.Settings.{breakpoint_line, has_number, is_full, next_numbered, with_breakpoint, without_number}
-use Rattle.agc_repl.specs.declared.command.Trigger.{Trigger}
-use Rattle.agc_repl.specs.Repl.{RunsOn, after_boundaries, after_due, after_stretch, gone_back, takes_event}
-use Rattle.agc_repl.specs.Stretch.{Stretch, armed_in, stretch_to, writes_text}
-use Rattle.agc_repl.specs.declared.armed_breakpoint.ArmedBreakpoint.TheVariants as armed
+use Rattle.agc_repl.specs.Repl.{RunsOn, after_boundaries, after_due, after_run, all_armed, gone_back, run_of, takes_event}
+use Rattle.agc_repl.specs.Run.{Run, stop_line, writes_text}
 use Rattle.agc_repl.specs.declared.file_name.FileName.{FileName}
 use Rattle.agc_repl.specs.declared.repl.Repl.{Repl}
 use Rattle.agc_repl.specs.declared.saver.SaveFault.{SaveFault}
@@ -45,29 +45,27 @@ last_line t = end_line t.session.now.stopped t.session.now.cycle
 abbrev pub cycles_on : ℕ → Repl → ℕ
 cycles_on cycles t = min (t.session.now.cycle + cycles) (2 ^ 64 - 1)
 
--- a stretch with the lines of its writes; then also whether the breakpoint was hit
-abbrev pub shown_stretch : Stretch → Repl → Answer
-shown_stretch stretch t = (after_stretch stretch t, writes_text t.settings.quiet stretch.writes)
+-- a run with the lines of its writes; for `until` also whether its condition was hit, for `continue` which breakpoint
+abbrev pub shown_run : Run → Repl → Answer
+shown_run run t = (after_run run t, writes_text t.settings.quiet run.writes)
 
-abbrev pub shown_until : Stretch → Repl → Answer
-shown_until stretch t =
-    (after_stretch stretch t, writes_text t.settings.quiet stretch.writes ++ hit_line stretch.hit)
+abbrev pub shown_until : Run → Repl → Answer
+shown_until run t = (after_run run t, writes_text t.settings.quiet run.writes ++ hit_line (is_some run.hit))
 
--- a run to a numbered breakpoint with the lines of its writes, and which breakpoint was hit
-abbrev pub shown_course : Course → Repl → Answer
-shown_course course t =
-    (course.last, writes_text t.settings.quiet course.writes ++ stop_line course.hit)
+abbrev pub shown_continue : Run → Repl → Answer
+shown_continue run t = (after_run run t, writes_text t.settings.quiet run.writes ++ stop_line run.hit)
 
 -- What a command does, and what it prints before the last line of its answer, unless it injects, goes back or changes
 -- the settings: one case each. Commands without a case show something and change nothing.
 unfoldable pub done : Option (List Symbol) → Command → Repl → Answer
-done names (command.Go cycles) t = shown_stretch (stretch_to armed.Nothing (cycles_on cycles t) t.session.now) t
-done names (command.GoTo cycle) t = shown_stretch (stretch_to armed.Nothing cycle t.session.now) t
+done names (command.Go cycles) t = shown_run (run_of [] (cycles_on cycles t) t) t
+done names (command.GoTo cycle) t = shown_run (run_of [] cycle t) t
 done names (command.Step boundaries) t =
     (after_boundaries boundaries t, flat_map (line_with names) (trace_within boundaries t.session.now))
+done names (command.Ahead boundaries) t = (t, flat_map (line_with names) (trace_within boundaries t.session.now))
 done names (command.Until what within) t =
-    shown_until (stretch_to (armed_in t.session.now what) (cycles_on within t) t.session.now) t
-done names (command.Continue within) t = shown_course (course_to (all_armed t) (cycles_on within t) t) t
+    shown_until (run_of (armed_in t.session.now 0 what ∷ []) (cycles_on within t) t) t
+done names (command.Continue within) t = shown_continue (run_of (all_armed t) (cycles_on within t) t) t
 done names shown t = (t, shown_text names shown t)
 
 -- why an event was not injected
@@ -97,10 +95,17 @@ given_answer what t =
 abbrev pub ahead_text : List ℕ
 ahead_text = codes "Ahead: the machine has not reached this cycle; go to C runs on to it"
 
+-- the lines of the events that going back drops, if they are to be listed
+unfoldable pub dropped_text : Rewind → SessionState → List ℕ
+dropped_text way s = if way.lists then script_text (discarded way.cut s) else []
+
+abbrev pub went_back : Rewind → Repl → Answer
+went_back way t = (gone_back way.cut way.cycle t, dropped_text way t.session)
+
 -- A session goes back to a cycle that it has reached, without the events injected at the cut or later.
-unfoldable pub back_answer : ℕ → ℕ → Repl → Answer
-back_answer cut cycle t =
-    if nat_le cycle t.session.now.cycle then ended (gone_back cut cycle t, [])
+unfoldable pub back_answer : Rewind → Repl → Answer
+back_answer way t =
+    if nat_le way.cycle t.session.now.cycle then ended (went_back way t)
     else (t, error_line ahead_text)
 
 -- why there is no further breakpoint, or none to delete
@@ -111,14 +116,14 @@ abbrev pub missing_text : List ℕ
 missing_text = codes "NoBreakpoint: no breakpoint has this number; breaks lists them"
 
 -- A breakpoint is set unless there are too many.
-abbrev pub breakpoint_set : Trigger → Repl → Answer
+abbrev pub breakpoint_set : Condition → Repl → Answer
 breakpoint_set what t =
     ended (
       record t { settings = with_breakpoint what t.settings },
       breakpoint_line (next_numbered what t.settings),
     )
 
-unfoldable pub break_answer : Trigger → Repl → Answer
+unfoldable pub break_answer : Condition → Repl → Answer
 break_answer what t =
     if is_full t.settings then (t, error_line full_text) else breakpoint_set what t
 
@@ -133,8 +138,8 @@ unfoldable pub quiet_answer : Bool → Repl → Answer
 quiet_answer quiet t = ended (record t { settings = record t.settings { quiet = quiet } }, [])
 
 -- the fault of a search back that finds nothing
-unfoldable pub missed : SessionBreakpoint → CommandFault
-missed sought.Boundary = invalid.TooFarBack
+unfoldable pub missed : Condition → CommandFault
+missed condition.Boundary = invalid.TooFarBack
 missed what = invalid.NotHit
 
 -- the cycle after this one, as a number of 64 bits
@@ -142,9 +147,10 @@ unfoldable pub cycle_after : ℕ → ℕ
 cycle_after cycle = min (cycle + 1) (2 ^ 64 - 1)
 
 -- `back` to the cycle that a search has found; the events injected at this cycle stay in the script
-abbrev pub found_request : SessionBreakpoint → Option ℕ → Request
-found_request what (Some cycle) = Ok (Some (command.Back (cycle_after cycle) cycle))
-found_request what None = Err (missed what)
+abbrev pub found_request : Search → Option ℕ → Request
+found_request search (Some cycle) =
+    Ok (Some (command.Back (record { cut = cycle_after cycle; cycle = cycle; lists = search.lists })))
+found_request search None = Err (missed search.what)
 
 -- `save` once it was tried: itself, answered like an empty line, or a line at fault
 unfoldable pub request_saved : FileName → Result (Unit {0}) SaveFault → Request
@@ -154,8 +160,8 @@ request_saved name (Err why) = Err (invalid.NotSaved why)
 -- What a request means in a state: a search back means to go back to the cycle that it finds, or a line at fault if
 -- it finds none; `save` means itself, or a line at fault if it fails. Every other request means itself.
 abbrev pub Means : Request → Repl → Request → Type 0
-Means (Ok (Some (command.BackTo what count))) t meant =
-    (found : Option ℕ) × IsFoundBack what count t.session found × (meant ≡ found_request what found)
+Means (Ok (Some (command.BackTo search))) t meant =
+    (found : Option ℕ) × IsFoundBack search.what search.count t.session found × (meant ≡ found_request search found)
 Means (Ok (Some (command.Save name))) t meant =
     (saved : Result (Unit {0}) SaveFault) × (meant ≡ request_saved name saved)
 Means request t meant = meant ≡ request
@@ -163,8 +169,8 @@ Means request t meant = meant ≡ request
 -- the answer to a command; a search back is answered by what it means
 unfoldable pub answered : Option (List Symbol) → Command → Repl → Answer
 answered names (command.Inject what) t = given_answer what t
-answered names (command.Back cut cycle) t = back_answer cut cycle t
-answered names (command.BackTo what count) t = (t, [])
+answered names (command.Back way) t = back_answer way t
+answered names (command.BackTo search) t = (t, [])
 answered names (command.Break what) t = break_answer what t
 answered names (command.Delete number) t = delete_answer number t
 answered names (command.Quiet quiet) t = quiet_answer quiet t
@@ -206,12 +212,12 @@ IsLeft (Ok None) s t = t ≡ s
 IsLeft (Err why) s t = t ≡ s
 
 -- `back` has gone there, or memory ran out and it did nothing
-abbrev pub GoesBack : ℕ → ℕ → Repl → Repl → Option (List ℕ) → Option (List ℕ) → Type 0
-GoesBack cut cycle s t old new =
-    Outputs (ended (gone_back cut cycle s, [])) t old new ⊎ ((t ≡ s) × Appends old new (codes "error: memory\n"))
+abbrev pub GoesBack : Rewind → Repl → Repl → Option (List ℕ) → Option (List ℕ) → Type 0
+GoesBack way s t old new =
+    Outputs (ended (went_back way s)) t old new ⊎ ((t ≡ s) × Appends old new (codes "error: memory\n"))
 
 -- a breakpoint was set, or memory ran out and it was not
-abbrev pub Sets : Trigger → Repl → Repl → Option (List ℕ) → Option (List ℕ) → Type 0
+abbrev pub Sets : Condition → Repl → Repl → Option (List ℕ) → Option (List ℕ) → Type 0
 Sets what s t old new =
     Outputs (breakpoint_set what s) t old new ⊎ ((t ≡ s) × Appends old new (codes "error: memory\n"))
 
@@ -234,13 +240,13 @@ IsHandled names request s t old new =
 
 -- a request that can mean itself: every one but a search back
 abbrev pub IsItself : Request → Type 0
-IsItself (Ok (Some (command.BackTo what count))) = ⊥
+IsItself (Ok (Some (command.BackTo search))) = ⊥
 IsItself request = Unit {0}
 
 -- a request that does not go back
 abbrev pub IsInPlace : Request → Type 0
-IsInPlace (Ok (Some (command.Back cut cycle))) = ⊥
-IsInPlace (Ok (Some (command.BackTo what count))) = ⊥
+IsInPlace (Ok (Some (command.Back way))) = ⊥
+IsInPlace (Ok (Some (command.BackTo search))) = ⊥
 IsInPlace request = Unit {0}
 
 -- commands that neither go back, inject nor change the settings, which are executed separately
@@ -248,8 +254,8 @@ abbrev pub IsPlain : Command → Type 0
 IsPlain (command.Break what) = ⊥
 IsPlain (command.Delete number) = ⊥
 IsPlain (command.Quiet quiet) = ⊥
-IsPlain (command.Back cut cycle) = ⊥
-IsPlain (command.BackTo what count) = ⊥
+IsPlain (command.Back way) = ⊥
+IsPlain (command.BackTo search) = ⊥
 IsPlain (command.Inject what) = ⊥
 IsPlain command = Unit {0}
 

@@ -30,17 +30,13 @@ use Rattle.agc_repl.specs.Place.{cell_in, cells_after, place_in}
 use Rattle.agc_repl.specs.Words.{alone, and_then, only_word}
 use Rattle.agc_repl.specs.declared.command.Command.{Command}
 use Rattle.agc_repl.specs.declared.command.Command.TheVariants as command
-use Rattle.agc_repl.specs.declared.command.Breakpoint.{Breakpoint}
-use Rattle.agc_repl.specs.declared.command.Breakpoint.TheVariants as target
-use Rattle.agc_repl.specs.declared.command.Trigger.{Trigger}
-use Rattle.agc_repl.specs.declared.command.Trigger.TheVariants as trigger
 use Rattle.agc_repl.specs.declared.fault.CommandFault.{CommandFault}
 use Rattle.agc_repl.specs.declared.fault.CommandFault.TheVariants as fault
 use Rattle.agc_repl.specs.declared.name.CommandName.{CommandName}
 use Rattle.agc_repl.specs.declared.name.CommandName.TheVariants as name
-use Rattle.agc_session.specs.Breakpoint.{IsBreakpointInRange as IsSoughtInRange}
-use Rattle.agc_session.specs.declared.breakpoint.Breakpoint.{Breakpoint as SessionBreakpoint}
-use Rattle.agc_session.specs.declared.breakpoint.Breakpoint.TheVariants as sought
+use Rattle.agc_session.specs.Condition.{IsConditionInRange}
+use Rattle.agc_session.specs.declared.condition.Condition.{Condition}
+use Rattle.agc_session.specs.declared.condition.Condition.TheVariants as condition
 
 -- a number of cycles or of boundaries, and no other words
 abbrev pub only_cycles : CommandName → List (List ℕ) → Result ℕ CommandFault
@@ -60,26 +56,32 @@ step_of [] = Ok (command.Step 1)
 step_of (first ∷ words) =
     and_then (only_cycles name.Step (first ∷ words)) (λ boundaries. Ok (command.Step boundaries))
 
+-- `ahead` and `ahead N`
+unfoldable pub ahead_of : List (List ℕ) → Result Command CommandFault
+ahead_of [] = Ok (command.Ahead 1)
+ahead_of (first ∷ words) =
+    and_then (only_cycles name.Ahead (first ∷ words)) (λ boundaries. Ok (command.Ahead boundaries))
+
 -- `within N` at the end, or 1,000,000 cycles
 unfoldable pub within_of : CommandName → List (List ℕ) → Result ℕ CommandFault
 within_of n [] = Ok 1000000
 within_of n (first ∷ words) =
     if bytes_eq first (codes "within") then only_cycles n words else Err (fault.Usage n)
 
-unfoldable pub until_target : Breakpoint → List (List ℕ) → Result Command CommandFault
+unfoldable pub until_target : Condition → List (List ℕ) → Result Command CommandFault
 until_target what words = and_then (within_of name.Until words) (λ within. Ok (command.Until what within))
 
 -- `until write CCC`
 abbrev pub until_write : List (List ℕ) → Result Command CommandFault
 until_write [] = Err (fault.Usage name.Until)
 until_write (channel ∷ words) =
-    and_then (written_channel_in channel) (λ number. until_target (target.Write number) words)
+    and_then (written_channel_in channel) (λ number. until_target (condition.Write (Some number) None) words)
 
 -- `until cell PLACE`
 abbrev pub until_cell : Option (List Symbol) → List (List ℕ) → Result Command CommandFault
 until_cell names [] = Err (fault.Usage name.Until)
 until_cell names (place ∷ words) =
-    and_then (cell_in names place) (λ cell. until_target (target.Cell cell) words)
+    and_then (cell_in names place) (λ cell. until_target (condition.Cell cell) words)
 
 -- `until PLACE`, or one of the two before
 unfoldable pub until_of : Option (List Symbol) → List (List ℕ) → Result Command CommandFault
@@ -87,18 +89,18 @@ until_of names [] = Err (fault.Usage name.Until)
 until_of names (first ∷ words) =
     if bytes_eq first (codes "write") then until_write words
     else if bytes_eq first (codes "cell") then until_cell names words
-    else and_then (place_in names first) (λ place. until_target (target.Order place) words)
+    else and_then (place_in names first) (λ place. until_target (condition.Order place) words)
 
--- a breakpoint that `until` takes too
-abbrev pub break_at : Breakpoint → Command
-break_at what = command.Break (trigger.At what)
+-- a breakpoint
+abbrev pub break_at : Condition → Command
+break_at what = command.Break what
 
 -- `break write CCC` and `break write CCC WORD`
 unfoldable pub break_write_of : ℕ → List (List ℕ) → Result Command CommandFault
-break_write_of channel [] = Ok (break_at (target.Write channel))
+break_write_of channel [] = Ok (break_at (condition.Write (Some channel) None))
 break_write_of channel (word ∷ words) =
     and_then (word_in word)
-    (λ value. alone (break_at (target.Word channel value)) name.Break words)
+    (λ value. alone (break_at (condition.Write (Some channel) (Some value))) name.Break words)
 
 abbrev pub break_write : List (List ℕ) → Result Command CommandFault
 break_write [] = Err (fault.Usage name.Break)
@@ -107,7 +109,7 @@ break_write (channel ∷ words) =
 
 -- a breakpoint at a cell
 abbrev pub break_at_cell : Option (List Symbol) → List ℕ → Result Command CommandFault
-break_at_cell names word = and_then (cell_in names word) (λ cell. Ok (break_at (target.Cell cell)))
+break_at_cell names word = and_then (cell_in names word) (λ cell. Ok (break_at (condition.Cell cell)))
 
 -- `break cell PLACE`
 abbrev pub break_cell : Option (List Symbol) → List (List ℕ) → Result Command CommandFault
@@ -117,19 +119,19 @@ break_cell names words = and_then (only_word name.Break words) (break_at_cell na
 abbrev pub break_interrupt : List (List ℕ) → Result Command CommandFault
 break_interrupt words =
     and_then (and_then (only_word name.Break words) interrupt_in)
-    (λ rupt. Ok (break_at (target.Interrupt rupt)))
+    (λ rupt. Ok (break_at (condition.Interrupt (Some rupt))))
 
 -- `break PLACE`
 abbrev pub break_place : Option (List Symbol) → List (List ℕ) → Result Command CommandFault
 break_place names words =
     and_then (and_then (only_word name.Break words) (place_in names))
-    (λ place. Ok (break_at (target.Order place)))
+    (λ place. Ok (break_at (condition.Order place)))
 
 -- `break panel` and `break panel TEXT`
 unfoldable pub break_panel : List (List ℕ) → Result Command CommandFault
-break_panel [] = Ok (command.Break trigger.Panel)
+break_panel [] = Ok (command.Break condition.Panel)
 break_panel (first ∷ words) =
-    and_then (ok_or (line_in (first ∷ words)) fault.BadLine) (λ line. Ok (command.Break (trigger.Shows line)))
+    and_then (ok_or (line_in (first ∷ words)) fault.BadLine) (λ line. Ok (command.Break (condition.Shows line)))
 
 -- `break PLACE`, or one of the four before
 unfoldable pub break_of : Option (List Symbol) → List (List ℕ) → Result Command CommandFault
@@ -197,24 +199,26 @@ channel_of words =
     (λ channel. Ok (command.Channel channel))
 
 -- a search for the last hit
-abbrev pub last_hit : SessionBreakpoint → Command
-last_hit what = command.BackTo what 1
+abbrev pub last_hit : Condition → Command
+last_hit what = command.BackTo (record { what = what; count = 1; lists = false })
 
 -- `back step` and `back step N`
 abbrev pub steps_back : ℕ → Result Command CommandFault
 steps_back boundaries =
-    if boundaries == 0 then Err fault.NoStep else Ok (command.BackTo sought.Boundary boundaries)
+    if boundaries == 0
+    then Err fault.NoStep
+    else Ok (command.BackTo (record { what = condition.Boundary; count = boundaries; lists = false }))
 
 unfoldable pub back_step : List (List ℕ) → Result Command CommandFault
-back_step [] = Ok (command.BackTo sought.Boundary 1)
+back_step [] = Ok (last_hit condition.Boundary)
 back_step (first ∷ words) = and_then (only_cycles name.Back (first ∷ words)) steps_back
 
 -- `back until write CCC` and `back until write CCC WORD`
 unfoldable pub back_write_of : ℕ → List (List ℕ) → Result Command CommandFault
-back_write_of channel [] = Ok (last_hit (sought.Write (Some channel) None))
+back_write_of channel [] = Ok (last_hit (condition.Write (Some channel) None))
 back_write_of channel (word ∷ words) =
     and_then (word_in word)
-    (λ value. alone (last_hit (sought.Write (Some channel) (Some value))) name.Back words)
+    (λ value. alone (last_hit (condition.Write (Some channel) (Some value))) name.Back words)
 
 abbrev pub back_write : List (List ℕ) → Result Command CommandFault
 back_write [] = Err (fault.Usage name.Back)
@@ -225,20 +229,20 @@ back_write (channel ∷ words) =
 abbrev pub back_cell : Option (List Symbol) → List (List ℕ) → Result Command CommandFault
 back_cell names words =
     and_then (and_then (only_word name.Back words) (cell_in names))
-    (λ cell. Ok (last_hit (sought.Cell cell)))
+    (λ cell. Ok (last_hit (condition.Cell cell)))
 
 -- `back until interrupt` and `back until interrupt NAME`
 unfoldable pub back_interrupt : List (List ℕ) → Result Command CommandFault
-back_interrupt [] = Ok (last_hit (sought.Interrupt None))
+back_interrupt [] = Ok (last_hit (condition.Interrupt None))
 back_interrupt (first ∷ words) =
     and_then (and_then (only_word name.Back (first ∷ words)) interrupt_in)
-    (λ rupt. Ok (last_hit (sought.Interrupt (Some rupt))))
+    (λ rupt. Ok (last_hit (condition.Interrupt (Some rupt))))
 
 -- `back until PLACE`
 abbrev pub back_place : Option (List Symbol) → List (List ℕ) → Result Command CommandFault
 back_place names words =
     and_then (and_then (only_word name.Back words) (place_in names))
-    (λ place. Ok (last_hit (sought.Order place)))
+    (λ place. Ok (last_hit (condition.Order place)))
 
 -- `back until PLACE`, `back until panel`, or one of the three before
 unfoldable pub back_until : Option (List Symbol) → List (List ℕ) → Result Command CommandFault
@@ -247,16 +251,31 @@ back_until names (first ∷ words) =
     if bytes_eq first (codes "write") then back_write words
     else if bytes_eq first (codes "cell") then back_cell names words
     else if bytes_eq first (codes "interrupt") then back_interrupt words
-    else if bytes_eq first (codes "panel") then alone (last_hit sought.Panel) name.Back words
+    else if bytes_eq first (codes "panel") then alone (last_hit condition.Panel) name.Back words
     else back_place names (first ∷ words)
 
 -- `back C`, or one of the searches before
+unfoldable pub way_back : Option (List Symbol) → List (List ℕ) → Result Command CommandFault
+way_back names [] = Err (fault.Usage name.Back)
+way_back names (first ∷ words) =
+    if bytes_eq first (codes "step") then back_step words
+    else if bytes_eq first (codes "until") then back_until names words
+    else and_then (only_cycles name.Back (first ∷ words))
+    (λ cycle. Ok (command.Back (record { cut = cycle; cycle = cycle; lists = false })))
+
+-- the same command, which lists what it drops if it goes back
+unfoldable pub listing : Command → Command
+listing (command.Back way) = command.Back (record way { lists = true })
+listing (command.BackTo search) = command.BackTo (record search { lists = true })
+listing c = c
+
+-- the same, or `list` before it
 unfoldable pub back_of : Option (List Symbol) → List (List ℕ) → Result Command CommandFault
 back_of names [] = Err (fault.Usage name.Back)
 back_of names (first ∷ words) =
-    if bytes_eq first (codes "step") then back_step words
-    else if bytes_eq first (codes "until") then back_until names words
-    else and_then (only_cycles name.Back (first ∷ words)) (λ cycle. Ok (command.Back cycle cycle))
+    if bytes_eq first (codes "list")
+    then and_then (way_back names words) (λ c. Ok (listing c))
+    else way_back names (first ∷ words)
 
 -- `save FILE`
 unfoldable pub save_of : List (List ℕ) → Result Command CommandFault
@@ -276,6 +295,7 @@ command_by names name.Panel words = alone command.Panel name.Panel words
 command_by names name.Watch words = watch_of names words
 command_by names name.Registers words = alone command.Registers name.Registers words
 command_by names name.Next words = alone command.Next name.Next words
+command_by names name.Ahead words = ahead_of words
 command_by names name.Where words = alone command.Where name.Where words
 command_by names name.Cell words = cells_of names words
 command_by names name.Print words = print_of names words
@@ -344,30 +364,32 @@ request_of names line =
     else words_request names (words_of line)
 
 -- each number of a command is in its range
-unfoldable pub IsBreakpointInRange : Breakpoint → Type 0
-IsBreakpointInRange (target.Order place) = IsWithin place
-IsBreakpointInRange (target.Write channel) = IsIoChannel channel
-IsBreakpointInRange (target.Word channel word) = IsIoChannel channel
-IsBreakpointInRange (target.Cell cell) = cell < erasable_cells
-IsBreakpointInRange (target.Interrupt rupt) = Unit {0}
+abbrev pub IsChannelInRange : Option ℕ → Type 0
+IsChannelInRange (Some channel) = IsIoChannel channel
+IsChannelInRange None = Unit {0}
 
-unfoldable pub IsTriggerInRange : Trigger → Type 0
-IsTriggerInRange (trigger.At what) = IsBreakpointInRange what
-IsTriggerInRange trigger.Panel = Unit {0}
-IsTriggerInRange (trigger.Shows line) = Unit {0}
+unfoldable pub IsBreakpointInRange : Condition → Type 0
+IsBreakpointInRange (condition.Order place) = IsWithin place
+IsBreakpointInRange (condition.Write channel word) = IsChannelInRange channel
+IsBreakpointInRange (condition.Cell cell) = cell < erasable_cells
+IsBreakpointInRange (condition.Interrupt which) = Unit {0}
+IsBreakpointInRange condition.Panel = Unit {0}
+IsBreakpointInRange (condition.Shows line) = Unit {0}
+IsBreakpointInRange condition.Boundary = Unit {0}
 
 unfoldable pub IsCommandInRange : Command → Type 0
 IsCommandInRange (command.Go cycles) = cycles ≤ last_cycle
 IsCommandInRange (command.GoTo cycle) = cycle ≤ last_cycle
 IsCommandInRange (command.Step boundaries) = boundaries ≤ last_cycle
+IsCommandInRange (command.Ahead boundaries) = boundaries ≤ last_cycle
 IsCommandInRange (command.Until what within) = IsBreakpointInRange what × (within ≤ last_cycle)
-IsCommandInRange (command.Break what) = IsTriggerInRange what
+IsCommandInRange (command.Break what) = IsBreakpointInRange what
 IsCommandInRange (command.Continue within) = within ≤ last_cycle
 IsCommandInRange (command.Inject what) = IsWhatInRange what
 IsCommandInRange (command.Watch spec) = watch_fault_of spec ≡ None
 IsCommandInRange (command.Cells first count) = first + count ≤ erasable_cells
 IsCommandInRange (command.Print first count) = first + count ≤ erasable_cells
 IsCommandInRange (command.Channel channel) = channel ≤ last_io_channel
-IsCommandInRange (command.Back cut cycle) = (cut ≤ last_cycle) × (cycle ≤ last_cycle)
-IsCommandInRange (command.BackTo what count) = (0 < count) × IsSoughtInRange what
+IsCommandInRange (command.Back way) = (way.cut ≤ last_cycle) × (way.cycle ≤ last_cycle)
+IsCommandInRange (command.BackTo search) = (0 < search.count) × IsConditionInRange search.what
 IsCommandInRange command = Unit {0}

@@ -72,7 +72,7 @@ save_advice unsaved.CannotWrite = codes "the file could not be written"
 unfoldable pub fault_advice : CommandFault → List ℕ
 fault_advice fault.LineTooLong = codes "a line has at most 120 bytes"
 fault_advice fault.NotAscii = codes "a line is ASCII only"
-fault_advice fault.UnknownCommand = codes "help lists the commands"
+fault_advice fault.UnknownCommand = codes "unknown command; help lists the commands"
 fault_advice (fault.Usage name) = usage_text name
 fault_advice fault.BadNumber =
     codes "cycles, boundaries and breakpoints are 1 to 13 decimal digits, such as 1000000, at most 1000000000000"

@@ -9,9 +9,8 @@ pub mod Command
 pub mod Help
 pub mod Answer
 pub mod Settings
+pub mod Run
 pub mod Repl
-pub mod Stretch
-pub mod Course
 pub mod Whereabouts
 pub mod Queries
 pub mod Answered

@@ -18,6 +18,7 @@ name_text name.Panel = codes "panel"
 name_text name.Watch = codes "watch"
 name_text name.Registers = codes "registers"
 name_text name.Next = codes "next"
+name_text name.Ahead = codes "ahead"
 name_text name.Where = codes "where"
 name_text name.Cell = codes "cell"
 name_text name.Print = codes "print"
@@ -33,7 +34,7 @@ name_text name.Quit = codes "quit"
 unfoldable pub all_names : List CommandName
 all_names =
     name.Go ∷ name.Step ∷ name.Until ∷ name.Break ∷ name.Breaks ∷ name.Delete ∷ name.Continue
-    ∷ name.Quiet ∷ name.Panel ∷ name.Watch ∷ name.Registers ∷ name.Next ∷ name.Where
+    ∷ name.Quiet ∷ name.Panel ∷ name.Watch ∷ name.Registers ∷ name.Next ∷ name.Ahead ∷ name.Where
     ∷ name.Cell ∷ name.Print ∷ name.Channel ∷ name.Writes ∷ name.Back ∷ name.Script
     ∷ name.Save ∷ name.Help ∷ name.Quit ∷ []
 
@@ -57,13 +58,14 @@ usage_text name.Panel = codes "panel"
 usage_text name.Watch = codes "watch PLACE, or watch SPEC"
 usage_text name.Registers = codes "registers"
 usage_text name.Next = codes "next"
+usage_text name.Ahead = codes "ahead, or ahead N"
 usage_text name.Where = codes "where"
 usage_text name.Cell = codes "cell PLACE, or cell PLACE N"
 usage_text name.Print = codes "print PLACE, or print PLACE N"
 usage_text name.Channel = codes "channel CCC"
 usage_text name.Writes = codes "writes"
 usage_text name.Back =
-    codes "back C, back step [N], or back until PLACE, write CCC [WORD], cell PLACE, interrupt [NAME] or panel"
+    codes "back [list] C, step [N], or until PLACE, write CCC [WORD], cell PLACE, interrupt [NAME] or panel"
 usage_text name.Script = codes "script"
 usage_text name.Save = codes "save FILE"
 usage_text name.Help = codes "help"

@@ -1,5 +1,5 @@
 -- How the console's session runs on: the panel shows its writes, and they are counted.
-use Rattle.std.specs.Prelude.{◌≡◌, ◌<◌, ◌^◌, ◌+◌, ◌-◌, ℕ, zero, suc, min, Bool, true, false, List, [], ◌∷◌, Option, None, Some, if◌then◌else◌, is_none, nat_lt, ◌&&◌, replicate}
+use Rattle.std.specs.Prelude.{◌≡◌, ◌<◌, ◌^◌, ◌+◌, ◌-◌, ℕ, zero, suc, min, Bool, true, false, List, [], ◌∷◌, Option, None, Some, if◌then◌else◌, is_none, nat_lt, ◌&&◌, replicate, map}
 use Rattle.agc_word.specs.declared.channel_write.ChannelWrite.{ChannelWrite}
 use Rattle.agc_machine.specs.Boundary.{boundary, due_event, upcoming_of}
 use Rattle.agc_machine.specs.Replay.{Chain, chain, writes_in}
@@ -14,8 +14,8 @@ use Rattle.agc_panel.specs.Face.{face_after, panel_of}
 use Rattle.agc_script.specs.Event.{most_events}
 use Rattle.agc_session.specs.Session.{SessionState, retained_before, start_with, script_before}
 use Rattle.agc_repl.specs.Settings.{SettingsState}
-use Rattle.agc_repl.specs.Stretch.{Stretch, stretch_to}
-use Rattle.agc_repl.specs.declared.armed_breakpoint.ArmedBreakpoint.TheVariants as armed
+use Rattle.agc_repl.specs.Run.{Run, armed_by, run_to}
+use Rattle.agc_session.specs.declared.condition.Armed.{Armed}
 use Rattle.agc_repl.specs.declared.repl.Repl.{Repl}
 
 -- a session at the start of time, with these settings
@@ -42,8 +42,15 @@ unfoldable pub gone_on : State → List ChannelWrite → Repl → Repl
 gone_on last [] t = record t { session = record t.session { now = last } }
 gone_on last (write ∷ writes) t = gone_on last writes (noted write t)
 
-abbrev pub after_stretch : Stretch → Repl → Repl
-after_stretch stretch t = gone_on stretch.last stretch.writes t
+abbrev pub after_run : Run → Repl → Repl
+after_run run t = gone_on run.last run.writes t
+
+-- the run of a console from now on, and its breakpoints as they are armed now
+abbrev pub run_of : List Armed → ℕ → Repl → Run
+run_of armed cycle t = run_to armed cycle t.session.panel t.session.now
+
+abbrev pub all_armed : Repl → List Armed
+all_armed t = map (armed_by t.session.now) t.settings.breakpoints
 
 -- this many boundaries, with nothing injected
 abbrev pub after_chain : Chain → Repl → Repl
@@ -90,7 +97,7 @@ rewound cycle s =
 -- restarted without the events injected at the first cycle or later, and then run to the second one; the settings stay
 abbrev pub gone_back : ℕ → ℕ → Repl → Repl
 gone_back cut cycle t =
-    let s = rewound cut t.session in after_stretch (stretch_to armed.Nothing cycle s.now) (at_start t.settings s)
+    let start = at_start t.settings (rewound cut t.session) in after_run (run_of [] cycle start) start
 
 -- Some boundaries were taken with nothing injected.
 pub record GoesOn (s t : SessionState) : Type 0 where

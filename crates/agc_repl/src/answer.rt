@@ -14,27 +14,29 @@ ghost use Rattle.agc_word.specs.Channels.{last_io_channel};
 ghost use Rattle.agc_word.specs.Octal.{octal_digits};
 ghost use Rattle.agc_listing.specs.Location.{IsWithin};
 ghost use Rattle.agc_listing.specs.Place.{IsInPrint, place_text};
-ghost use Rattle.agc_repl.specs.Command.{IsBreakpointInRange, IsTriggerInRange};
-ghost use Rattle.agc_repl.specs.Course.{stop_line};
+ghost use Rattle.agc_repl.specs.Command.{IsBreakpointInRange, IsChannelInRange};
 ghost use Rattle.agc_repl.specs.Fault.{fault_text, fault_text_with, name_meant, question};
 ghost use Rattle.agc_repl.specs.Settings.{
   AreInRange,
   breakpoint_line,
   breakpoint_text,
+  channel_text,
+  interrupt_text,
   location_text,
   numbered_text,
-  trigger_text,
+  word_text,
 };
-ghost use Rattle.agc_repl.specs.Stretch.{run_line};
+ghost use Rattle.agc_repl.specs.Run.{run_line, stop_line};
 ghost use Rattle.agc_trace.specs.OperandLine.{signed_text};
 ghost use Rattle.agc_store.specs.Places.{erasable_cells};
 
-use crate::command::{Breakpoint, Trigger};
 use crate::fault::CommandFault;
 use crate::meant::name_meant;
 use crate::settings::Numbered;
 use agc_listing::{Cell, Location, Place, listed_address, push_place};
 use agc_machine::Stop;
+use agc_processor::Rupt;
+use agc_session::{Armed, Condition};
 use agc_store::Store;
 use agc_store::place::{ERASABLE_BANK_SIZE, bank_of};
 use agc_symbols::SymbolTable;
@@ -222,7 +224,7 @@ pub(crate) fn push_breakpoint_line(
     text: &mut String,
     breakpoint: Numbered,
 ) -> Result<(), AllocError>
-    requires { IsTriggerInRange breakpoint.what }
+    requires { IsBreakpointInRange breakpoint.what }
     ensures { OnOk result
         (string_bytes text.new ≡ string_bytes text.old ++ breakpoint_line breakpoint) }
 {
@@ -246,14 +248,20 @@ pub(crate) fn push_breakpoint_lines(
 }
 
 /// Adds the line that reports which breakpoint was hit, or that none was.
-pub(crate) fn push_stop_line(text: &mut String, hit: Option<Numbered>) -> Result<(), AllocError>
-    requires { IfSome hit (λ b. IsTriggerInRange b.what) }
+pub(crate) fn push_stop_line(text: &mut String, hit: Option<Armed>) -> Result<(), AllocError>
+    requires { IfSome hit (λ a. IsBreakpointInRange a.condition) }
     ensures { OnOk result (string_bytes text.new ≡ string_bytes text.old ++ stop_line hit) }
 {
     match hit {
-        Some(breakpoint) => {
+        Some(armed) => {
             text.push_str("hit ")?;
-            push_numbered(text, breakpoint)
+            push_numbered(
+                text,
+                Numbered {
+                    number: armed.number,
+                    what: armed.condition,
+                },
+            )
         }
         None => text.push_str("hit none\n"),
     }
@@ -262,60 +270,83 @@ pub(crate) fn push_stop_line(text: &mut String, hit: Option<Numbered>) -> Result
 /// Adds a breakpoint's number and what it is at.
 #[tactic(auto, unfolding(crate::specs::Settings::numbered_text))]
 fn push_numbered(text: &mut String, breakpoint: Numbered) -> Result<(), AllocError>
-    requires { IsTriggerInRange breakpoint.what }
+    requires { IsBreakpointInRange breakpoint.what }
     ensures { OnOk result
         (string_bytes text.new ≡ string_bytes text.old ++ numbered_text breakpoint) }
 {
     let number = breakpoint.number;
     write!(text, "{number} ")?;
-    push_trigger(text, breakpoint.what)?;
+    push_breakpoint(text, breakpoint.what)?;
     text.push_str("\n")
 }
 
 /// Adds what a breakpoint is at.
-#[tactic(auto, unfolding(crate::specs::Settings::trigger_text, crate::specs::Command::IsTriggerInRange))]
-fn push_trigger(text: &mut String, what: Trigger) -> Result<(), AllocError>
-    requires { IsTriggerInRange what }
-    ensures { OnOk result (string_bytes text.new ≡ string_bytes text.old ++ trigger_text what) }
-{
-    match what {
-        Trigger::At(what) => push_breakpoint(text, what),
-        Trigger::Panel => text.push_str("panel"),
-        Trigger::Shows(line) => {
-            text.push_str("panel ")?;
-            line.push_to(text)
-        }
-    }
-}
-
-/// Adds a breakpoint that `until` takes too.
 #[tactic(auto, unfolding(crate::specs::Settings::breakpoint_text, crate::specs::Command::IsBreakpointInRange))]
-fn push_breakpoint(text: &mut String, what: Breakpoint) -> Result<(), AllocError>
+fn push_breakpoint(text: &mut String, what: Condition) -> Result<(), AllocError>
     requires { IsBreakpointInRange what }
     ensures { OnOk result (string_bytes text.new ≡ string_bytes text.old ++ breakpoint_text what) }
 {
     match what {
-        Breakpoint::Order(place) => {
+        Condition::Order(place) => {
             text.push_str("order ")?;
             push_location(text, place)
         }
-        Breakpoint::Write(channel) => {
-            text.push_str("write ")?;
-            push_channel(text, channel)
+        Condition::Write { channel, word } => {
+            text.push_str("write")?;
+            push_channel_of(text, channel)?;
+            push_word_of(text, word)
         }
-        Breakpoint::Word { channel, word } => {
-            text.push_str("write ")?;
-            push_channel(text, channel)?;
-            write!(text, " {word}")
-        }
-        Breakpoint::Cell(cell) => {
+        Condition::Cell(cell) => {
             text.push_str("cell ")?;
             push_place(text, Cell::new(cell).place())
         }
-        Breakpoint::Interrupt(rupt) => {
-            let name = rupt.name();
-            write!(text, "interrupt {name}")
+        Condition::Interrupt(which) => {
+            text.push_str("interrupt")?;
+            push_interrupt_of(text, which)
         }
+        Condition::Panel => text.push_str("panel"),
+        Condition::Shows(line) => {
+            text.push_str("panel ")?;
+            line.push_to(text)
+        }
+        Condition::Boundary => text.push_str("boundary"),
+    }
+}
+
+/// Adds the channel of a write, if there is one.
+fn push_channel_of(text: &mut String, channel: Option<u16>) -> Result<(), AllocError>
+    requires { IsChannelInRange channel }
+    ensures { OnOk result (string_bytes text.new ≡ string_bytes text.old ++ channel_text channel) }
+{
+    match channel {
+        Some(channel) => {
+            text.push_str(" ")?;
+            push_channel(text, channel)
+        }
+        None => Ok(()),
+    }
+}
+
+/// Adds the word of a write, if there is one.
+fn push_word_of(text: &mut String, word: Option<Narrow>) -> Result<(), AllocError>
+    ensures { OnOk result (string_bytes text.new ≡ string_bytes text.old ++ word_text word) }
+{
+    match word {
+        Some(word) => write!(text, " {word}"),
+        None => Ok(()),
+    }
+}
+
+/// Adds the name of an interrupt, if there is one.
+fn push_interrupt_of(text: &mut String, which: Option<Rupt>) -> Result<(), AllocError>
+    ensures { OnOk result (string_bytes text.new ≡ string_bytes text.old ++ interrupt_text which) }
+{
+    match which {
+        Some(rupt) => {
+            let name = rupt.name();
+            write!(text, " {name}")
+        }
+        None => Ok(()),
     }
 }
 

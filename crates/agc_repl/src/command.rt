@@ -1,35 +1,29 @@
 //! The parsed commands of the console.
 use crate::file_name::FileName;
-use agc_listing::Location;
-use agc_panel::{PanelLine, WatchSpec};
-use agc_processor::Rupt;
+use agc_panel::WatchSpec;
 use agc_script::What;
-use agc_word::Narrow;
+use agc_session::Condition;
 
-/// What `until` runs to.
+/// A way back to a cycle.
 #[derive(Clone, Copy, Debug, PartialEq, Eq)]
-pub enum Breakpoint {
-    /// The order at this place is the next to execute.
-    Order(Location),
-    /// The next write to this channel, 0 to 777 octal.
-    Write(u16),
-    /// The next write of this word to this channel.
-    Word { channel: u16, word: Narrow },
-    /// The next change of this cell: 400 octal times its bank, plus its offset.
-    Cell(u16),
-    /// This interrupt comes next.
-    Interrupt(Rupt),
+pub struct Rewind {
+    /// The events injected at this cycle or later are dropped.
+    pub cut: u64,
+    /// The session goes back to the state before this cycle.
+    pub cycle: u64,
+    /// Whether the answer lists the dropped events.
+    pub lists: bool,
 }
 
-/// What hits a numbered breakpoint.
+/// A search back.
 #[derive(Clone, Copy, Debug, PartialEq, Eq)]
-pub enum Trigger {
-    /// A breakpoint that `until` takes too.
-    At(Breakpoint),
-    /// A channel write that changes what the panel shows.
-    Panel,
-    /// A channel write after which the panel shows this line, and before which it did not.
-    Shows(PanelLine),
+pub struct Search {
+    /// What the boundary hits.
+    pub what: Condition,
+    /// 1 for the last boundary that hits it, 2 for the last but one, and so on.
+    pub count: u64,
+    /// Whether the answer lists the dropped events.
+    pub lists: bool,
 }
 
 /// A command of the console.
@@ -41,13 +35,10 @@ pub enum Command {
     GoTo(u64),
     /// Take this many boundaries.
     Step(u64),
-    /// Run to a breakpoint, for at most this many cycles.
-    Until {
-        what: Breakpoint,
-        within: u64,
-    },
+    /// Run until a condition is hit, for at most this many cycles.
+    Until { what: Condition, within: u64 },
     /// Set a numbered breakpoint.
-    Break(Trigger),
+    Break(Condition),
     /// List the numbered breakpoints.
     Breaks,
     /// Delete the breakpoint with this number.
@@ -66,32 +57,22 @@ pub enum Command {
     Registers,
     /// Show what comes next.
     Next,
+    /// Show this many coming boundaries, and take none.
+    Ahead(u64),
     /// Show where the machine is.
     Where,
     /// Show this many cells of erasable memory, from this one on: 400 octal times its bank, plus its offset.
-    Cells {
-        first: u16,
-        count: u16,
-    },
+    Cells { first: u16, count: u16 },
     /// Show the same cells in octal and as signed decimal numbers.
-    Print {
-        first: u16,
-        count: u16,
-    },
+    Print { first: u16, count: u16 },
     /// Show the word of this channel, 0 to 777 octal.
     Channel(u16),
     /// Show the number of channel writes.
     Writes,
-    /// Rewind to the state before `cycle`, and drop the events injected at `cut` or later.
-    Back {
-        cut: u64,
-        cycle: u64,
-    },
-    /// Rewind to the start of the last boundary that hits this: with `count` 2 the last but one, and so on.
-    BackTo {
-        what: agc_session::Breakpoint,
-        count: u64,
-    },
+    /// Rewind to a cycle.
+    Back(Rewind),
+    /// Rewind to the start of a boundary that a search finds.
+    BackTo(Search),
     /// Export the script that replays the session.
     Script,
     /// Save that script to a new file.

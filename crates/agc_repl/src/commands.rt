@@ -1,5 +1,5 @@
 //! Executes the commands that move the machine.
-ghost use Rattle.std.specs.Prelude.{◌≡◌, ◌≢◌, ◌⊎◌, ◌++◌, true, false, ◌+◌, ◌-◌, ◌^◌, [], ◌∷◌, min, IsErrOf, IfErr, IfOk, IfSome, OnOk, OnErr, flat_map, length, map, string_bytes};
+ghost use Rattle.std.specs.Prelude.{◌≡◌, ◌≢◌, ◌⊎◌, ◌++◌, true, false, ◌+◌, ◌-◌, ◌^◌, [], ◌∷◌, min, IsErrOf, IfErr, IfOk, IfSome, OnOk, OnErr, flat_map, is_some, length, map, string_bytes};
 ghost use Rattle.std.specs.Io.KnownBytes.{Appends, Keeps, append_known};
 ghost use Rattle.agc_machine.specs.Boundary.{boundary, upcoming_of};
 ghost use Rattle.agc_machine.specs.Laws.{HasChannel};
@@ -8,26 +8,22 @@ ghost use Rattle.agc_session.specs.Session.{injected_now};
 ghost use Rattle.agc_trace.specs.Entry.{FitsLine, entry_of};
 ghost use Rattle.agc_trace.specs.NamedLine.{line_with};
 ghost use Rattle.agc_trace.specs.Trace.{trace_within};
-ghost use Rattle.agc_repl.specs.Command.{IsBreakpointInRange, IsTriggerInRange};
-ghost use Rattle.agc_repl.specs.Answered.{Begins, Grows, Outputs, refusal_text, shown_course, shown_until, shown_stretch};
-ghost use Rattle.agc_repl.specs.Course.{AreSound, all_armed, armed_by, course_to, hit_by};
+ghost use Rattle.agc_session.specs.Condition.{armed_in};
+ghost use Rattle.agc_repl.specs.Command.{IsBreakpointInRange};
+ghost use Rattle.agc_repl.specs.Answered.{Begins, Grows, Outputs, refusal_text, shown_continue, shown_run, shown_until};
 ghost use Rattle.agc_repl.specs.Settings.{AreInRange};
-ghost use Rattle.agc_repl.specs.Repl.{GoesOn, RunsOn, after_boundaries, after_due, after_stretch, gone_on, takes_event};
-ghost use Rattle.agc_repl.specs.Stretch.{IsArmedInRange, armed_in, stretch_to, writes_text};
-ghost use Rattle.agc_repl.specs.declared.armed_breakpoint.ArmedBreakpoint.TheVariants.{Nothing};
+ghost use Rattle.agc_repl.specs.Repl.{GoesOn, RunsOn, after_boundaries, after_due, after_run, all_armed, gone_on, run_of, takes_event};
+ghost use Rattle.agc_repl.specs.Run.{AreSound, armed_by, writes_text};
 ghost use Rattle.agc_script.specs.Event.{IsWhatInRange, most_events};
 
 use crate::answer::{push_hit_line, push_run_line, push_stop_line};
-use crate::armed_breakpoint::{Armed, ArmedBreakpoint};
-use crate::command::Breakpoint;
 use crate::conversation::ReplFault;
 use crate::output::write_part;
 use crate::repl::Repl;
 use crate::settings::Numbered;
 use agc_machine::{Machine, Stepped, Upcoming};
-use agc_panel::Panel;
 use agc_script::{MOST_EVENTS, What};
-use agc_session::InjectFault;
+use agc_session::{Advanced, Armed, Condition, InjectFault};
 use agc_symbols::SymbolTable;
 use agc_trace::{Entry, push_line_with, registers_in};
 use std::alloc::{AllocError, Global};
@@ -40,13 +36,13 @@ pub(crate) fn go<W: Write>(
     text: &mut String,
     output: &mut W,
 ) -> Result<(), ReplFault>
-    ensures reported { OnOk result (Outputs (shown_stretch (stretch_to Nothing
-        (min (repl.old.session.now.cycle + cycles) (2 ^ 64 - 1)) repl.old.session.now) repl.old) repl.new
+    ensures reported { OnOk result (Outputs (shown_run (run_of []
+        (min (repl.old.session.now.cycle + cycles) (2 ^ 64 - 1)) repl.old) repl.old) repl.new
         (append_known (W.contents output.old) (string_bytes text.old))
         (append_known (W.contents output.new) (string_bytes text.new))) }
     ensures on { RunsOn repl.old repl.new }
     ensures begins { IsErrOf result ReplFault.Memory → Begins (string_bytes text.old
-        ++ (shown_stretch (stretch_to Nothing (min (repl.old.session.now.cycle + cycles) (2 ^ 64 - 1)) repl.old.session.now) repl.old).1)
+        ++ (shown_run (run_of [] (min (repl.old.session.now.cycle + cycles) (2 ^ 64 - 1)) repl.old) repl.old).1)
         (W.contents output.old) (W.contents output.new) }
     ensures grows { (IsErrOf result ReplFault.Write → ⊥) → Grows (W.contents output.old) (W.contents output.new) }
 {
@@ -61,52 +57,61 @@ pub(crate) fn go_on_to<W: Write>(
     text: &mut String,
     output: &mut W,
 ) -> Result<(), ReplFault>
-    ensures reported { OnOk result (Outputs (shown_stretch (stretch_to Nothing cycle repl.old.session.now) repl.old) repl.new
+    ensures reported { OnOk result (Outputs (shown_run (run_of [] cycle repl.old) repl.old) repl.new
         (append_known (W.contents output.old) (string_bytes text.old))
         (append_known (W.contents output.new) (string_bytes text.new))) }
     ensures on { RunsOn repl.old repl.new }
     ensures begins { IsErrOf result ReplFault.Memory → Begins (string_bytes text.old
-        ++ (shown_stretch (stretch_to Nothing cycle repl.old.session.now) repl.old).1)
+        ++ (shown_run (run_of [] cycle repl.old) repl.old).1)
         (W.contents output.old) (W.contents output.new) }
     ensures grows { (IsErrOf result ReplFault.Write → ⊥) → Grows (W.contents output.old) (W.contents output.new) }
 {
     let quiet = repl.settings.quiet();
-    go_to(repl, &ArmedBreakpoint::Nothing, cycle, quiet, text, output)?;
+    run_to(repl, &[], cycle, quiet, text, output)?;
     Ok(())
 }
 
-/// Runs to `cycle`, to the stop or until `armed` is hit, and prints each channel write. Returns whether it was hit.
-fn go_to<W: Write>(
+/// Runs to `cycle`, to the stop or until one of `armed` is hit, and prints each channel write. Returns the one that was
+/// hit.
+fn run_to<W: Write>(
     repl: &mut Repl,
-    armed: &ArmedBreakpoint,
+    armed: &[Armed],
     cycle: u64,
     quiet: bool,
     text: &mut String,
     output: &mut W,
-) -> Result<bool, ReplFault>
-    requires { IsArmedInRange armed.now }
-    ensures gone { OnOk result (repl.new ≡ after_stretch (stretch_to armed.now cycle repl.old.session.now) repl.old) }
-    ensures hit { IfOk result (λ hit. hit ≡ (stretch_to armed.now cycle repl.old.session.now).hit) }
+) -> Result<Option<Armed>, ReplFault>
+    requires { AreSound armed.now }
+    ensures gone { OnOk result (repl.new ≡ after_run (run_of armed.now cycle repl.old) repl.old) }
+    ensures hit { IfOk result (λ hit. hit ≡ (run_of armed.now cycle repl.old).hit) }
+    ensures range { IfOk result (λ hit. IfSome hit (λ a. IsBreakpointInRange a.condition)) }
     ensures reported { OnOk result (Appends (append_known (W.contents output.old) (string_bytes text.old))
         (append_known (W.contents output.new) (string_bytes text.new))
-        (writes_text quiet (stretch_to armed.now cycle repl.old.session.now).writes)) }
+        (writes_text quiet (run_of armed.now cycle repl.old).writes)) }
     ensures on { RunsOn repl.old repl.new }
     ensures begins { IsErrOf result ReplFault.Memory → Begins (string_bytes text.old
-        ++ writes_text quiet (stretch_to armed.now cycle repl.old.session.now).writes) (W.contents output.old) (W.contents output.new) }
+        ++ writes_text quiet (run_of armed.now cycle repl.old).writes) (W.contents output.old) (W.contents output.new) }
     ensures grows { (IsErrOf result ReplFault.Write → ⊥) → Grows (W.contents output.old) (W.contents output.new) }
 {
     while repl.is_before(cycle) {
-        let stepped = armed.advance(repl, cycle);
-        tell(&stepped, quiet, text, output)?;
-        if armed.has_come(repl.machine(), &stepped) {
-            return Ok(true);
+        let next = repl.advance(armed, cycle);
+        print_write(&next.stepped, quiet, text, output)?;
+        if has_hit(&next) {
+            return Ok(next.hit);
         }
     }
-    Ok(false)
+    Ok(None)
+}
+
+/// Returns whether a run has hit a condition.
+fn has_hit(next: &Advanced) -> bool
+    ensures { result ≡ is_some next.now.hit }
+{
+    next.hit.is_some()
 }
 
 /// Prints the line of a channel write, if there was one and runs are not quiet.
-fn tell<W: Write>(
+fn print_write<W: Write>(
     stepped: &Stepped,
     quiet: bool,
     text: &mut String,
@@ -178,53 +183,53 @@ fn next_entry(repl: &mut Repl) -> Entry
     }
 }
 
-/// Runs to a breakpoint, for at most `within` cycles or to the stop. Prints each channel write, and whether the
-/// breakpoint was hit.
+/// Runs until a condition is hit, for at most `within` cycles or to the stop. Prints each channel write, and whether the
+/// condition was hit.
 pub(crate) fn until<W: Write>(
     repl: &mut Repl,
-    what: Breakpoint,
+    what: Condition,
     within: u64,
     text: &mut String,
     output: &mut W,
 ) -> Result<(), ReplFault>
     requires { IsBreakpointInRange what }
-    ensures reported { OnOk result (Outputs (shown_until (stretch_to (armed_in repl.old.session.now what)
-        (min (repl.old.session.now.cycle + within) (2 ^ 64 - 1)) repl.old.session.now) repl.old) repl.new
+    ensures reported { OnOk result (Outputs (shown_until (run_of (armed_in repl.old.session.now 0 what ∷ [])
+        (min (repl.old.session.now.cycle + within) (2 ^ 64 - 1)) repl.old) repl.old) repl.new
         (append_known (W.contents output.old) (string_bytes text.old))
         (append_known (W.contents output.new) (string_bytes text.new))) }
     ensures on { RunsOn repl.old repl.new }
     ensures begins { IsErrOf result ReplFault.Memory → Begins (string_bytes text.old
-        ++ (shown_until (stretch_to (armed_in repl.old.session.now what)
-        (min (repl.old.session.now.cycle + within) (2 ^ 64 - 1)) repl.old.session.now) repl.old).1)
+        ++ (shown_until (run_of (armed_in repl.old.session.now 0 what ∷ [])
+        (min (repl.old.session.now.cycle + within) (2 ^ 64 - 1)) repl.old) repl.old).1)
         (W.contents output.old) (W.contents output.new) }
     ensures grows { (IsErrOf result ReplFault.Write → ⊥) → Grows (W.contents output.old) (W.contents output.new) }
 {
-    let armed = ArmedBreakpoint::new(repl.machine(), what);
+    let armed = Armed::new(repl.machine(), 0, what);
     let end = repl.cycle().saturating_add(within);
-    go_until(repl, &armed, end, text, output)
+    go_until(repl, &[armed], end, text, output)
 }
 
-/// Runs to `cycle`, to the stop or until `armed` is hit. Prints each channel write, and whether it was hit.
+/// Runs to `cycle`, to the stop or until one of `armed` is hit. Prints each channel write, and whether one was hit.
 fn go_until<W: Write>(
     repl: &mut Repl,
-    armed: &ArmedBreakpoint,
+    armed: &[Armed],
     cycle: u64,
     text: &mut String,
     output: &mut W,
 ) -> Result<(), ReplFault>
-    requires { IsArmedInRange armed.now }
-    ensures reported { OnOk result (Outputs (shown_until (stretch_to armed.now cycle repl.old.session.now) repl.old) repl.new
+    requires { AreSound armed.now }
+    ensures reported { OnOk result (Outputs (shown_until (run_of armed.now cycle repl.old) repl.old) repl.new
         (append_known (W.contents output.old) (string_bytes text.old))
         (append_known (W.contents output.new) (string_bytes text.new))) }
     ensures on { RunsOn repl.old repl.new }
     ensures begins { IsErrOf result ReplFault.Memory → Begins (string_bytes text.old
-        ++ (shown_until (stretch_to armed.now cycle repl.old.session.now) repl.old).1)
+        ++ (shown_until (run_of armed.now cycle repl.old) repl.old).1)
         (W.contents output.old) (W.contents output.new) }
     ensures grows { (IsErrOf result ReplFault.Write → ⊥) → Grows (W.contents output.old) (W.contents output.new) }
 {
     let quiet = repl.settings.quiet();
-    let hit = go_to(repl, armed, cycle, quiet, text, output)?;
-    push_hit_line(text, hit)?;
+    let hit = run_to(repl, armed, cycle, quiet, text, output)?;
+    push_hit_line(text, hit.is_some())?;
     Ok(())
 }
 
@@ -237,13 +242,13 @@ pub(crate) fn go_on_until<W: Write>(
     text: &mut String,
     output: &mut W,
 ) -> Result<(), ReplFault>
-    ensures reported { OnOk result (Outputs (shown_course (course_to (all_armed repl.old)
+    ensures reported { OnOk result (Outputs (shown_continue (run_of (all_armed repl.old)
         (min (repl.old.session.now.cycle + within) (2 ^ 64 - 1)) repl.old) repl.old) repl.new
         (append_known (W.contents output.old) (string_bytes text.old))
         (append_known (W.contents output.new) (string_bytes text.new))) }
     ensures on { RunsOn repl.old repl.new }
     ensures begins { IsErrOf result ReplFault.Memory → Begins (string_bytes text.old
-        ++ (shown_course (course_to (all_armed repl.old)
+        ++ (shown_continue (run_of (all_armed repl.old)
         (min (repl.old.session.now.cycle + within) (2 ^ 64 - 1)) repl.old) repl.old).1)
         (W.contents output.old) (W.contents output.new) }
     ensures grows { (IsErrOf result ReplFault.Write → ⊥) → Grows (W.contents output.old) (W.contents output.new) }
@@ -253,7 +258,7 @@ pub(crate) fn go_on_until<W: Write>(
     continue_until(repl, armed.as_slice(), end, text, output)
 }
 
-/// Returns breakpoints with the targets that they have now.
+/// Returns breakpoints, armed now.
 fn arm_each(
     alloc: Global,
     machine: &Machine,
@@ -265,13 +270,18 @@ fn arm_each(
 {
     let mut armed = Vec::new(alloc);
     for breakpoint in breakpoints {
-        let target: ArmedBreakpoint = ArmedBreakpoint::of(machine, breakpoint.what);
-        armed.push(Armed {
-            breakpoint: *breakpoint,
-            target,
-        })?;
+        let one: Armed = arm(machine, breakpoint);
+        armed.push(one)?;
     }
     Ok(armed)
+}
+
+/// Returns a breakpoint, armed now.
+fn arm(machine: &Machine, breakpoint: &Numbered) -> Armed
+    requires { IsBreakpointInRange breakpoint.now.what }
+    ensures { result ≡ armed_by machine.now breakpoint.now }
+{
+    Armed::new(machine, breakpoint.number, breakpoint.what)
 }
 
 /// Runs to `cycle`, to the stop or until one of `armed` is hit. Prints each channel write, and which one was hit.
@@ -283,68 +293,19 @@ fn continue_until<W: Write>(
     output: &mut W,
 ) -> Result<(), ReplFault>
     requires { AreSound armed.now }
-    ensures reported { OnOk result (Outputs (shown_course (course_to armed.now cycle repl.old) repl.old) repl.new
+    ensures reported { OnOk result (Outputs (shown_continue (run_of armed.now cycle repl.old) repl.old) repl.new
         (append_known (W.contents output.old) (string_bytes text.old))
         (append_known (W.contents output.new) (string_bytes text.new))) }
     ensures on { RunsOn repl.old repl.new }
     ensures begins { IsErrOf result ReplFault.Memory → Begins (string_bytes text.old
-        ++ (shown_course (course_to armed.now cycle repl.old) repl.old).1)
+        ++ (shown_continue (run_of armed.now cycle repl.old) repl.old).1)
         (W.contents output.old) (W.contents output.new) }
     ensures grows { (IsErrOf result ReplFault.Write → ⊥) → Grows (W.contents output.old) (W.contents output.new) }
 {
     let quiet = repl.settings.quiet();
-    let hit = continue_to(repl, armed, cycle, quiet, text, output)?;
+    let hit = run_to(repl, armed, cycle, quiet, text, output)?;
     push_stop_line(text, hit)?;
     Ok(())
-}
-
-/// Runs to `cycle`, to the stop or until one of `armed` is hit, and prints each channel write. Returns the breakpoint
-/// that was hit.
-fn continue_to<W: Write>(
-    repl: &mut Repl,
-    armed: &[Armed],
-    cycle: u64,
-    quiet: bool,
-    text: &mut String,
-    output: &mut W,
-) -> Result<Option<Numbered>, ReplFault>
-    requires { AreSound armed.now }
-    ensures gone { OnOk result (repl.new ≡ (course_to armed.now cycle repl.old).last) }
-    ensures hit { IfOk result (λ hit. hit ≡ (course_to armed.now cycle repl.old).hit) }
-    ensures range { IfOk result (λ hit. IfSome hit (λ b. IsTriggerInRange b.what)) }
-    ensures reported { OnOk result (Appends (append_known (W.contents output.old) (string_bytes text.old))
-        (append_known (W.contents output.new) (string_bytes text.new))
-        (writes_text quiet (course_to armed.now cycle repl.old).writes)) }
-    ensures on { RunsOn repl.old repl.new }
-    ensures begins { IsErrOf result ReplFault.Memory → Begins (string_bytes text.old
-        ++ writes_text quiet (course_to armed.now cycle repl.old).writes) (W.contents output.old) (W.contents output.new) }
-    ensures grows { (IsErrOf result ReplFault.Write → ⊥) → Grows (W.contents output.old) (W.contents output.new) }
-{
-    while repl.is_before(cycle) {
-        let before = *repl.session.panel();
-        let stepped = repl.step();
-        tell(&stepped, quiet, text, output)?;
-        match hit_by(armed, &before, repl.machine(), &stepped) {
-            Some(breakpoint) => return Ok(Some(breakpoint)),
-            None => {}
-        }
-    }
-    Ok(None)
-}
-
-/// Returns the first breakpoint that a boundary has hit, by the panel before it.
-#[tactic(auto, unfolding(crate::specs::Course::hit_by))]
-fn hit_by(armed: &[Armed], before: &Panel, machine: &Machine, stepped: &Stepped) -> Option<Numbered>
-    requires { AreSound armed.now }
-    ensures hit { result ≡ hit_by armed.now before.now machine.now stepped.now }
-    ensures range { IfSome result (λ b. IsTriggerInRange b.what) }
-{
-    for each in armed {
-        if each.is_hit(before, machine, stepped) {
-            return Some(each.breakpoint);
-        }
-    }
-    None
 }
 
 /// Injects an event, after the script's events that are due. If memory runs out, it is not injected.

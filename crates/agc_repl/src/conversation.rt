@@ -26,36 +26,38 @@ ghost use Rattle.agc_repl.specs.Answered.{
   answered,
   cycle_after,
   done,
+  dropped_text,
   last_line,
   missed,
   refusal_text,
 };
 ghost use Rattle.agc_repl.specs.Transcript.{AreAnswered, IsSessionOf, RanOut, requests_in};
-ghost use Rattle.agc_session.specs.Breakpoint.{IsBreakpointInRange as IsSoughtInRange};
+ghost use Rattle.agc_session.specs.Condition.{IsConditionInRange};
 ghost use Rattle.agc_repl.specs.Queries.{shown_text};
 ghost use Rattle.agc_repl.specs.Repl.{at_start};
 ghost use Rattle.agc_script.specs.Event.{IsWhatInRange};
 ghost use Rattle.agc_repl.specs.Fault.{fault_text_with};
-ghost use Rattle.agc_repl.specs.Command.{IsCommandInRange, IsTriggerInRange};
+ghost use Rattle.agc_repl.specs.Command.{IsBreakpointInRange, IsCommandInRange};
 ghost use Rattle.agc_repl.specs.Settings.{at_first, breakpoint_line, next_numbered, with_breakpoint};
 ghost use Rattle.agc_repl.specs.declared.conversation.ReplFault.TheVariants.{Memory};
 
+use crate::ahead::ahead;
 use crate::answer::{push_breakpoint_line, push_end_line, push_refusal_line};
-use crate::command::{Command, Trigger};
+use crate::command::{Command, Rewind, Search};
 use crate::commands::{go, go_on_to, go_on_until, inject, refusal, step, until};
 use crate::fault::CommandFault;
 use crate::file_name::FileName;
 use crate::lines::{Request, next_request};
-use crate::output::{write_end_line, write_error_line, write_text};
+use crate::output::{write_bytes, write_end_line, write_error_line, write_text};
 use crate::queries::push_shown;
 use crate::repl::Repl;
 use crate::saver::{Saver, request_saved};
 use crate::settings::Numbered;
 use agc_script::What;
-use agc_session::{InjectFault, Session};
+use agc_session::{Condition, InjectFault, LINE_ROOM, Session};
 use agc_symbols::SymbolTable;
 use std::alloc::{AllocError, Global};
-use std::io::{BufReader, Read, Write};
+use std::io::{self, BufReader, Read, Write};
 use thiserror::Error;
 
 /// Why a session ended before its input did.
@@ -181,11 +183,9 @@ fn answer<W: Write, S: Saver>(
     ensures { IfOk result (λ left. IsHandled names.now request repl left (W.contents output.old) (W.contents output.new)) }
 {
     match request {
-        Ok(Some(Command::BackTo { what, count })) => {
-            answer_search(alloc, names, repl, what, count, output)
-        }
+        Ok(Some(Command::BackTo(search))) => answer_search(alloc, names, repl, search, output),
         Ok(Some(Command::Save(name))) => answer_save(alloc, names, repl, name, output, saver),
-        itself => answer_itself(alloc, names, repl, itself, output),
+        itself => answer_without_search(alloc, names, repl, itself, output),
     }
 }
 
@@ -202,34 +202,36 @@ fn answer_save<W: Write, S: Saver>(
         (W.contents output.old) (W.contents output.new)) }
 {
     let saved = saver.save(name.text(), &repl.session);
-    answer_itself(alloc, names, repl, request_saved(name, saved), output)
+    answer_without_search(alloc, names, repl, request_saved(name, saved), output)
 }
 
-/// Searches back for the last boundary that hits `what`, or with `count` 2 the last but one, and so on. Rewinds to its
-/// start, and answers. The events injected at its cycle will happen again. If nothing is found, or memory runs out,
-/// nothing changes.
+/// Searches back, rewinds to the start of the boundary that is found, and answers. The events injected at its cycle will
+/// happen again. If nothing is found, or memory runs out, nothing changes.
 fn answer_search<W: Write>(
     alloc: Global,
     names: &Option<SymbolTable>,
     repl: Repl,
-    what: agc_session::Breakpoint,
-    count: u64,
+    search: Search,
     output: &mut W,
 ) -> Result<Repl, ReplFault>
-    requires some { 0 < count }
-    requires range { IsSoughtInRange what }
-    ensures { IfOk result (λ left. IsHandled names.now (Ok (Some (Command.BackTo what count))) repl left
+    requires some { 0 < search.count }
+    requires range { IsConditionInRange search.what }
+    ensures { IfOk result (λ left. IsHandled names.now (Ok (Some (Command.BackTo search))) repl left
         (W.contents output.old) (W.contents output.new)) }
 {
-    let Ok(found) = repl.session.last_hit(alloc, what, count) else {
+    let Ok(found) = repl.session.last_hit(alloc, search.what, search.count) else {
         return refuse(repl, "memory", output);
     };
     match found {
         Some(cycle) => {
-            let cut = cycle_after(cycle);
-            rewind_to(alloc, names, repl, cut, cycle, output)
+            let way = Rewind {
+                cut: cycle_after(cycle),
+                cycle,
+                lists: search.lists,
+            };
+            rewind_to(alloc, names, repl, way, output)
         }
-        None => answer_missed(alloc, names, repl, &what, output),
+        None => answer_not_found(alloc, names, repl, &search.what, output),
     }
 }
 
@@ -242,11 +244,11 @@ fn cycle_after(cycle: u64) -> u64
 }
 
 /// Answers that a search back finds nothing, and changes nothing.
-fn answer_missed<W: Write>(
+fn answer_not_found<W: Write>(
     alloc: Global,
     names: &Option<SymbolTable>,
     mut repl: Repl,
-    what: &agc_session::Breakpoint,
+    what: &Condition,
     output: &mut W,
 ) -> Result<Repl, ReplFault>
     ensures { IfOk result (λ left. IsAnswered names.now (Err (missed what.now)) repl left
@@ -258,17 +260,17 @@ fn answer_missed<W: Write>(
 
 /// Returns the fault of a search back that finds nothing.
 #[tactic(auto, unfolding(crate::specs::Answered::missed))]
-fn missed(what: &agc_session::Breakpoint) -> CommandFault
+fn missed(what: &Condition) -> CommandFault
     ensures { result ≡ missed what.now }
 {
     match what {
-        agc_session::Breakpoint::Boundary => CommandFault::TooFarBack,
+        Condition::Boundary => CommandFault::TooFarBack,
         _ => CommandFault::NotHit,
     }
 }
 
 /// Answers a request that is no search back. If memory runs out, the answer ends by reporting it.
-fn answer_itself<W: Write>(
+fn answer_without_search<W: Write>(
     alloc: Global,
     names: &Option<SymbolTable>,
     mut repl: Repl,
@@ -280,9 +282,7 @@ fn answer_itself<W: Write>(
     ensures { IfOk result (λ left. IsAnswered names.now request repl left (W.contents output.old) (W.contents output.new)) }
 {
     match request {
-        Ok(Some(Command::Back { cut, cycle })) => {
-            rewind_to(alloc, names, repl, cut, cycle, output)
-        }
+        Ok(Some(Command::Back(way))) => rewind_to(alloc, names, repl, way, output),
         in_place => {
             let reported = answer_in_place(alloc, names, &mut repl, in_place, output);
             keep_if(reported, repl)
@@ -409,6 +409,7 @@ fn carry_out<W: Write>(
         Command::Go(cycles) => go(repl, cycles, text, output),
         Command::GoTo(cycle) => go_on_to(repl, cycle, text, output),
         Command::Step(boundaries) => step(repl, names, boundaries, text, output),
+        Command::Ahead(boundaries) => ahead(alloc, repl, names, boundaries, text, output),
         Command::Until { what, within } => until(repl, what, within, text, output),
         Command::Continue(within) => go_on_until(alloc, repl, within, text, output),
         shown => show(alloc, names, repl, shown, text),
@@ -476,10 +477,10 @@ fn answer_break<W: Write>(
     alloc: Global,
     names: &Option<SymbolTable>,
     repl: &mut Repl,
-    what: Trigger,
+    what: Condition,
     output: &mut W,
 ) -> Result<(), ReplFault>
-    requires { IsTriggerInRange what }
+    requires { IsBreakpointInRange what }
     ensures { OnOk result (IsAnswered names.now (Ok (Some (Command.Break what))) repl.old repl.new
         (W.contents output.old) (W.contents output.new)) }
 {
@@ -497,10 +498,10 @@ fn answer_break<W: Write>(
 fn set_breakpoint<W: Write>(
     alloc: Global,
     repl: &mut Repl,
-    what: Trigger,
+    what: Condition,
     output: &mut W,
 ) -> Result<(), ReplFault>
-    requires { IsTriggerInRange what }
+    requires { IsBreakpointInRange what }
     ensures { OnOk result (Sets what repl.old repl.new (W.contents output.old) (W.contents output.new)) }
 {
     match add_breakpoint(alloc, repl, &what) {
@@ -510,8 +511,8 @@ fn set_breakpoint<W: Write>(
 }
 
 /// Sets a breakpoint, and returns the answer. If memory runs out, it is not set.
-fn add_breakpoint(alloc: Global, repl: &mut Repl, what: &Trigger) -> Result<String, AllocError>
-    requires { IsTriggerInRange what.now }
+fn add_breakpoint(alloc: Global, repl: &mut Repl, what: &Condition) -> Result<String, AllocError>
+    requires { IsBreakpointInRange what.now }
     ensures set { OnOk result
         (repl.new ≡ record repl.old { settings = with_breakpoint what.now repl.old.settings }) }
     ensures parsed { IfOk result (λ text. string_bytes text
@@ -569,21 +570,19 @@ fn answer_quiet<W: Write>(
     write_end(alloc, repl, output)
 }
 
-/// Rewinds to the state before `cycle`, without the events injected at `cut` or later, if the machine has reached it,
-/// and answers.
+/// Rewinds to a cycle, if the machine has reached it, and answers.
 fn rewind_to<W: Write>(
     alloc: Global,
     names: &Option<SymbolTable>,
     repl: Repl,
-    cut: u64,
-    cycle: u64,
+    way: Rewind,
     output: &mut W,
 ) -> Result<Repl, ReplFault>
-    ensures { IfOk result (λ left. IsAnswered names.now (Ok (Some (Command.Back cut cycle))) repl left
+    ensures { IfOk result (λ left. IsAnswered names.now (Ok (Some (Command.Back way))) repl left
         (W.contents output.old) (W.contents output.new)) }
 {
-    if repl.has_reached(cycle) {
-        rewind_reached(alloc, repl, cut, cycle, output)
+    if repl.has_reached(way.cycle) {
+        rewind_reached(alloc, repl, way, output)
     } else {
         refuse(
             repl,
@@ -593,24 +592,52 @@ fn rewind_to<W: Write>(
     }
 }
 
-/// Rewinds to the state before `cycle`, without the events injected at `cut` or later, and answers. If memory runs out,
-/// nothing changes.
+/// Rewinds to a cycle, and answers. If memory runs out, nothing changes.
 fn rewind_reached<W: Write>(
     alloc: Global,
     repl: Repl,
-    cut: u64,
-    cycle: u64,
+    way: Rewind,
     output: &mut W,
 ) -> Result<Repl, ReplFault>
-    ensures { IfOk result (λ left. GoesBack cut cycle repl left (W.contents output.old) (W.contents output.new)) }
+    ensures { IfOk result (λ left. GoesBack way repl left (W.contents output.old) (W.contents output.new)) }
 {
-    match repl.back(alloc, cut, cycle) {
+    let Ok(dropped) = dropped_lines(alloc, &repl.session, &way) else {
+        return refuse(repl, "memory", output);
+    };
+    match repl.back(alloc, way.cut, way.cycle) {
         Ok(earlier) => {
-            let reported = write_end(alloc, &earlier, output);
+            let reported = write_back(alloc, &earlier, dropped.as_slice(), output);
             keep_if(reported, earlier)
         }
         Err(same) => refuse(same, "memory", output),
     }
+}
+
+/// Returns the lines of the events that a rewind drops, if they are to be listed. Fails if memory runs out.
+#[tactic(auto, unfolding(crate::specs::Answered::dropped_text))]
+fn dropped_lines(alloc: Global, session: &Session, way: &Rewind) -> io::Result<Vec<u8>>
+    ensures { IfOk result (λ lines. lines.items ≡ dropped_text way.now session.now) }
+{
+    let mut lines = Vec::new(alloc);
+    if way.lists {
+        let mut line = String::with_capacity(alloc, LINE_ROOM)?;
+        session.write_discarded(way.cut, &mut line, &mut lines)?;
+    }
+    Ok(lines)
+}
+
+/// Writes the answer to a command that has gone back: the lines of the dropped events, and the last line.
+fn write_back<W: Write>(
+    alloc: Global,
+    repl: &Repl,
+    dropped: &[u8],
+    output: &mut W,
+) -> Result<(), ReplFault>
+    ensures { OnOk result (Appends (W.contents output.old) (W.contents output.new)
+        (dropped.now ++ end_line repl.now.session.now.stopped repl.now.session.now.cycle)) }
+{
+    write_bytes(output, dropped)?;
+    write_end(alloc, repl, output)
 }
 
 /// Answers why nothing was done, and changes nothing.

@@ -105,7 +105,7 @@ impl CommandFault {
         match self {
             CommandFault::LineTooLong => "a line has at most 120 bytes",
             CommandFault::NotAscii => "a line is ASCII only",
-            CommandFault::UnknownCommand => "help lists the commands",
+            CommandFault::UnknownCommand => "unknown command; help lists the commands",
             CommandFault::Usage(name) => name.usage(),
             CommandFault::BadNumber =>
                 "cycles, boundaries and breakpoints are 1 to 13 decimal digits, such as 1000000, at most 1000000000000",

@@ -81,6 +81,8 @@ fn purpose(name: CommandName) -> &'static str
             "sets a breakpoint at a cell, or shows the Executive's tables; all octal. Example: watch 0,200,7,0,330,0,340",
         CommandName::Registers => "shows A, L, Q, Z, EB, FB and BB, octal",
         CommandName::Next => "shows what comes next, as a trace does",
+        CommandName::Ahead =>
+            "shows the coming boundary, or N, 0 to 1000000000000, decimal, as step would print them. Example: ahead 10",
         CommandName::Where =>
             "shows the place of the order in hand, and what a service interrupted",
         CommandName::Cell =>
@@ -90,7 +92,7 @@ fn purpose(name: CommandName) -> &'static str
         CommandName::Channel => "shows a channel, 0 to 777, octal. Example: channel 10",
         CommandName::Writes => "shows the number of channel writes so far",
         CommandName::Back =>
-            "returns to before cycle C, decimal, to where the Nth last boundary began, from 1 on, decimal, or to where the last one that hits it began, numbers as for break; drops later events. Example: back until cell 0100",
+            "returns to before cycle C, decimal, to where the Nth last boundary began, from 1 on, decimal, or to where the last one that hits it began, numbers as for break; drops later events, and with list prints them. Example: back until cell 0100",
         CommandName::Script => "prints the script that repeats this session",
         CommandName::Save => "writes that script to a new file. Example: save my.script",
         CommandName::Help => "prints these lines",

@@ -1,8 +1,8 @@
 //! The console's language: commands, their parsing, and the answer to each one.
 #![tactic(auto)]
 
+mod ahead;
 mod answer;
-mod armed_breakpoint;
 mod command;
 mod commands;
 mod conversation;
@@ -15,7 +15,6 @@ mod meant;
 mod name;
 mod number;
 mod output;
-mod panel_change;
 mod place;
 mod queries;
 mod repl;
@@ -29,7 +28,7 @@ pub use answer::{
     CellStyle, push_cell_lines, push_channel_line, push_end_line, push_error_line, push_fault_line,
     push_hit_line, push_write_line, push_writes_line,
 };
-pub use command::{Breakpoint, Command, Trigger};
+pub use command::{Command, Rewind, Search};
 pub use conversation::{ReplFault, run_repl};
 pub use fault::CommandFault;
 pub use file_name::FileName;

@@ -17,6 +17,7 @@ pub enum CommandName {
     Watch,
     Registers,
     Next,
+    Ahead,
     Where,
     Cell,
     Print,
@@ -31,7 +32,7 @@ pub enum CommandName {
 
 impl CommandName {
     /// All names, each once, in the order in which `help` lists them.
-    pub const ALL: [CommandName; 22] = [
+    pub const ALL: [CommandName; 23] = [
         CommandName::Go,
         CommandName::Step,
         CommandName::Until,
@@ -44,6 +45,7 @@ impl CommandName {
         CommandName::Watch,
         CommandName::Registers,
         CommandName::Next,
+        CommandName::Ahead,
         CommandName::Where,
         CommandName::Cell,
         CommandName::Print,
@@ -85,6 +87,7 @@ impl CommandName {
             CommandName::Watch => "watch",
             CommandName::Registers => "registers",
             CommandName::Next => "next",
+            CommandName::Ahead => "ahead",
             CommandName::Where => "where",
             CommandName::Cell => "cell",
             CommandName::Print => "print",
@@ -117,13 +120,14 @@ impl CommandName {
             CommandName::Watch => "watch PLACE, or watch SPEC",
             CommandName::Registers => "registers",
             CommandName::Next => "next",
+            CommandName::Ahead => "ahead, or ahead N",
             CommandName::Where => "where",
             CommandName::Cell => "cell PLACE, or cell PLACE N",
             CommandName::Print => "print PLACE, or print PLACE N",
             CommandName::Channel => "channel CCC",
             CommandName::Writes => "writes",
             CommandName::Back => {
-                "back C, back step [N], or back until PLACE, write CCC [WORD], cell PLACE, interrupt [NAME] or panel"
+                "back [list] C, step [N], or until PLACE, write CCC [WORD], cell PLACE, interrupt [NAME] or panel"
             }
             CommandName::Script => "script",
             CommandName::Save => "save FILE",

@@ -16,7 +16,15 @@ pub(crate) fn write_text<W: Write>(output: &mut W, text: &str) -> Result<(), Rep
     ensures ok { OnOk result (Appends (W.contents output.old) (W.contents output.new) text.now) }
     ensures fault { IfErr result (λ fault. fault ≡ ReplFault.Write) }
 {
-    match output.write_all(text.as_bytes()) {
+    write_bytes(output, text.as_bytes())
+}
+
+/// Writes bytes.
+pub(crate) fn write_bytes<W: Write>(output: &mut W, bytes: &[u8]) -> Result<(), ReplFault>
+    ensures ok { OnOk result (Appends (W.contents output.old) (W.contents output.new) bytes.now) }
+    ensures fault { IfErr result (λ fault. fault ≡ ReplFault.Write) }
+{
+    match output.write_all(bytes) {
         Ok(()) => Ok(()),
         Err(_) => Err(ReplFault::Write),
     }

@@ -1,25 +1,26 @@
 //! The state of a console: a session, the number of channel writes that it has shown, and its settings.
-ghost use Rattle.std.specs.Prelude.{◌≡◌, [], ◌∷◌, nat_le, IfOk, IfErr};
+ghost use Rattle.std.specs.Prelude.{◌≡◌, [], ◌∷◌, nat_le, IfOk, IfErr, IfSome, true};
 ghost use Rattle.agc_machine.specs.Boundary.{boundary};
 ghost use Rattle.agc_machine.specs.Laws.{HasChannel};
 ghost use Rattle.agc_machine.specs.Replay.{writes_in};
-ghost use Rattle.agc_machine.specs.Run.{next_before};
 ghost use Rattle.agc_repl.specs.Repl.{
   Advances,
   RunsOn,
-  after_stretch,
+  after_run,
   at_start,
   counted,
   gone_back,
   gone_on,
+  run_of,
 };
+ghost use Rattle.agc_repl.specs.Command.{IsBreakpointInRange};
+ghost use Rattle.agc_session.specs.Condition.{first_hit};
 ghost use Rattle.agc_repl.specs.Settings.{at_first};
-ghost use Rattle.agc_repl.specs.Stretch.{is_short_of, stretch_to};
-ghost use Rattle.agc_repl.specs.declared.armed_breakpoint.ArmedBreakpoint.TheVariants.{Nothing};
+ghost use Rattle.agc_repl.specs.Run.{AreSound, is_short_of, run_on};
 
 use crate::settings::Settings;
 use agc_machine::{Machine, Stepped, Stop};
-use agc_session::Session;
+use agc_session::{Advanced, Armed, Session};
 use std::alloc::Global;
 
 /// A session, the number of channel writes that it has shown, and the settings.
@@ -89,16 +90,25 @@ impl Repl {
         self.note(stepped)
     }
 
-    /// Runs like [`Session::go_on`].
-    pub(crate) fn go_on(&mut self, cycle: u64) -> Stepped
-        ensures before { (self.new.session.now, result) ≡ next_before cycle self.old.session.now }
-        ensures shown { self.new ≡ gone_on self.new.session.now (writes_in (result ∷ [])) self.old }
+    /// Runs on like [`Session::advance`].
+    pub(crate) fn advance(&mut self, armed: &[Armed], cycle: u64) -> Advanced
+        requires range { AreSound armed.now }
+        requires short { is_short_of cycle self.old.session.now ≡ true }
+        ensures run { run_of armed.now cycle self.old
+            ≡ run_on result.hit (self.new.session.now, result.stepped) (run_of armed.now cycle self.new) }
+        ensures hit { result.hit ≡ first_hit armed.now self.old.session.panel self.new.session.now result.stepped }
+        ensures range { IfSome result.hit (λ a. IsBreakpointInRange a.condition) }
+        ensures shown { self.new ≡ gone_on self.new.session.now (writes_in (result.stepped ∷ [])) self.old }
         ensures on { RunsOn self.old self.new }
         ensures advances { Advances self.old.session.now self.new.session.now }
-        ensures channel { HasChannel result }
+        ensures channel { HasChannel result.stepped }
     {
-        let stepped = self.session.go_on(cycle);
-        self.note(stepped)
+        let next = self.session.advance(armed, cycle);
+        let stepped = self.note(next.stepped);
+        Advanced {
+            stepped,
+            hit: next.hit,
+        }
     }
 
     /// Counts the write of a boundary, if there is one.
@@ -116,10 +126,10 @@ impl Repl {
 
     /// Runs to `cycle` without printing anything.
     fn go_silently(&mut self, cycle: u64)
-        ensures { self.new ≡ after_stretch (stretch_to Nothing cycle self.old.session.now) self.old }
+        ensures { self.new ≡ after_run (run_of [] cycle self.old) self.old }
     {
         while self.is_before(cycle) {
-            self.go_on(cycle);
+            self.advance(&[], cycle);
         }
     }
 

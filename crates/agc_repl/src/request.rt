@@ -3,11 +3,11 @@ ghost use Rattle.std.specs.Prelude.{◌≡◌, ◌≤◌, ◌∷◌, IfOk, IfSom
 ghost use Rattle.agc_script.specs.Event.{last_cycle};
 ghost use Rattle.agc_word.specs.Channels.{IsIoChannel};
 ghost use Rattle.agc_word.specs.Text.{words_of};
-ghost use Rattle.agc_session.specs.Breakpoint.{IsBreakpointInRange as IsSoughtInRange};
+ghost use Rattle.agc_session.specs.Condition.{IsConditionInRange};
 ghost use Rattle.agc_repl.specs.Command.{
   IsCommandInRange,
   IsBreakpointInRange,
-  IsTriggerInRange,
+  ahead_of,
   back_cell,
   back_interrupt,
   back_of,
@@ -17,6 +17,7 @@ ghost use Rattle.agc_repl.specs.Command.{
   back_write,
   back_write_of,
   last_hit,
+  listing,
   break_of,
   break_at_cell,
   break_cell,
@@ -47,11 +48,12 @@ ghost use Rattle.agc_repl.specs.Command.{
   until_target,
   watch_of,
   watch_word,
+  way_back,
   within_of,
   words_request,
 };
 
-use crate::command::{Breakpoint, Command, Trigger};
+use crate::command::{Command, Rewind, Search};
 use crate::fault::CommandFault;
 use crate::file_name::FileName;
 use crate::name::CommandName;
@@ -63,6 +65,7 @@ use crate::words::{alone, is_word, only_word};
 use agc_listing::first_comma;
 use agc_panel::PanelLine;
 use agc_script::{FaultKind, Key, LONGEST_LINE, has_high_byte, read_command};
+use agc_session::Condition;
 use agc_symbols::SymbolTable;
 use agc_word::next_word;
 
@@ -129,6 +132,7 @@ fn read_named(
         CommandName::Watch => read_watch(names, words),
         CommandName::Registers => alone(Command::Registers, name, words),
         CommandName::Next => alone(Command::Next, name, words),
+        CommandName::Ahead => read_ahead(words),
         CommandName::Where => alone(Command::Where, name, words),
         CommandName::Cell => read_cells(names, words),
         CommandName::Print => read_print(names, words),
@@ -243,6 +247,19 @@ fn read_step(words: &[u8]) -> Result<Command, CommandFault>
     Ok(Command::Step(boundaries))
 }
 
+#[tactic(auto, unfolding(crate::specs::Command::ahead_of, crate::specs::Command::IsCommandInRange))]
+fn read_ahead(words: &[u8]) -> Result<Command, CommandFault>
+    ensures ahead { result ≡ ahead_of (words_of words.now) }
+    ensures range { IfOk result IsCommandInRange }
+{
+    if next_word(words).is_none() {
+        return Ok(Command::Ahead(1));
+    }
+    let boundaries = only_word(CommandName::Ahead, words)?;
+    let boundaries = read_cycles(boundaries)?;
+    Ok(Command::Ahead(boundaries))
+}
+
 #[tactic(auto, unfolding(crate::specs::Command::until_of, crate::specs::Command::IsBreakpointInRange))]
 fn read_until(names: &Option<SymbolTable>, words: &[u8]) -> Result<Command, CommandFault>
     ensures until { result ≡ until_of names.now (words_of words.now) }
@@ -252,20 +269,26 @@ fn read_until(names: &Option<SymbolTable>, words: &[u8]) -> Result<Command, Comm
     if is_word(first, "write") {
         let (channel, rest) = next_word(rest).ok_or(CommandFault::Usage(CommandName::Until))?;
         let channel = read_written_channel(channel)?;
-        return read_until_target(Breakpoint::Write(channel), rest);
+        return read_until_target(
+            Condition::Write {
+                channel: Some(channel),
+                word: None,
+            },
+            rest,
+        );
     }
     if is_word(first, "cell") {
         let (place, rest) = next_word(rest).ok_or(CommandFault::Usage(CommandName::Until))?;
         let cell = read_cell(names, place)?;
-        return read_until_target(Breakpoint::Cell(cell), rest);
+        return read_until_target(Condition::Cell(cell), rest);
     }
     let place = read_place(names, first)?;
-    read_until_target(Breakpoint::Order(place), rest)
+    read_until_target(Condition::Order(place), rest)
 }
 
 /// Parses the words after a breakpoint.
 #[tactic(auto, unfolding(crate::specs::Command::until_target, crate::specs::Command::IsCommandInRange))]
-fn read_until_target(what: Breakpoint, words: &[u8]) -> Result<Command, CommandFault>
+fn read_until_target(what: Condition, words: &[u8]) -> Result<Command, CommandFault>
     requires { IsBreakpointInRange what }
     ensures until { result ≡ until_target what (words_of words.now) }
     ensures range { IfOk result IsCommandInRange }
@@ -350,7 +373,7 @@ fn read_break_place(names: &Option<SymbolTable>, words: &[u8]) -> Result<Command
 {
     let word = only_word(CommandName::Break, words)?;
     let place = read_place(names, word)?;
-    Ok(break_at(Breakpoint::Order(place)))
+    Ok(break_at(Condition::Order(place)))
 }
 
 #[tactic(auto, unfolding(crate::specs::Command::IsCommandInRange, crate::specs::Command::IsBreakpointInRange))]
@@ -359,7 +382,7 @@ fn read_break_at_cell(names: &Option<SymbolTable>, word: &[u8]) -> Result<Comman
     ensures range { IfOk result IsCommandInRange }
 {
     let cell = read_cell(names, word)?;
-    Ok(break_at(Breakpoint::Cell(cell)))
+    Ok(break_at(Condition::Cell(cell)))
 }
 
 #[tactic(auto, unfolding(crate::specs::Command::IsCommandInRange, crate::specs::Command::IsBreakpointInRange))]
@@ -369,30 +392,30 @@ fn read_break_interrupt(words: &[u8]) -> Result<Command, CommandFault>
 {
     let word = only_word(CommandName::Break, words)?;
     let rupt = read_interrupt(word)?;
-    Ok(break_at(Breakpoint::Interrupt(rupt)))
+    Ok(break_at(Condition::Interrupt(Some(rupt))))
 }
 
 /// Parses the words after `break panel`: none, or a line of the panel.
-#[tactic(auto, unfolding(crate::specs::Command::break_panel, crate::specs::Command::IsCommandInRange, crate::specs::Command::IsTriggerInRange))]
+#[tactic(auto, unfolding(crate::specs::Command::break_panel, crate::specs::Command::IsCommandInRange, crate::specs::Command::IsBreakpointInRange))]
 fn read_break_panel(words: &[u8]) -> Result<Command, CommandFault>
     ensures breaks { result ≡ break_panel (words_of words.now) }
     ensures range { IfOk result IsCommandInRange }
 {
     if next_word(words).is_none() {
-        return Ok(Command::Break(Trigger::Panel));
+        return Ok(Command::Break(Condition::Panel));
     }
     let line = PanelLine::parse(words).ok_or(CommandFault::BadLine)?;
-    Ok(Command::Break(Trigger::Shows(line)))
+    Ok(Command::Break(Condition::Shows(line)))
 }
 
-/// Returns the command that sets a breakpoint that `until` takes too.
-#[tactic(auto, unfolding(crate::specs::Command::IsCommandInRange, crate::specs::Command::IsTriggerInRange))]
-fn break_at(what: Breakpoint) -> Command
+/// Returns the command that sets a breakpoint.
+#[tactic(auto, unfolding(crate::specs::Command::IsCommandInRange, crate::specs::Command::IsBreakpointInRange))]
+fn break_at(what: Condition) -> Command
     requires { IsBreakpointInRange what }
     ensures breaks { result ≡ break_at what }
     ensures range { IsCommandInRange result }
 {
-    Command::Break(Trigger::At(what))
+    Command::Break(what)
 }
 
 fn read_break_write(words: &[u8]) -> Result<Command, CommandFault>
@@ -412,11 +435,17 @@ fn read_break_word(channel: u16, words: &[u8]) -> Result<Command, CommandFault>
     ensures range { IfOk result IsCommandInRange }
 {
     let Some((word, rest)) = next_word(words) else {
-        return Ok(break_at(Breakpoint::Write(channel)));
+        return Ok(break_at(Condition::Write {
+            channel: Some(channel),
+            word: None,
+        }));
     };
     let word = read_word(word)?;
     alone(
-        break_at(Breakpoint::Word { channel, word }),
+        break_at(Condition::Write {
+            channel: Some(channel),
+            word: Some(word),
+        }),
         CommandName::Break,
         rest,
     )
@@ -502,6 +531,42 @@ fn read_back(names: &Option<SymbolTable>, words: &[u8]) -> Result<Command, Comma
     ensures range { IfOk result IsCommandInRange }
 {
     let (first, rest) = next_word(words).ok_or(CommandFault::Usage(CommandName::Back))?;
+    if is_word(first, "list") {
+        let back = read_way_back(names, rest)?;
+        return Ok(listing(back));
+    }
+    read_way_back(names, words)
+}
+
+/// Returns the same command; if it goes back, it lists the dropped events.
+#[tactic(auto, unfolding(crate::specs::Command::listing, crate::specs::Command::IsCommandInRange))]
+fn listing(command: Command) -> Command
+    requires { IsCommandInRange command }
+    ensures command { result ≡ listing command }
+    ensures range { IsCommandInRange result }
+{
+    match command {
+        Command::Back(way) => Command::Back(Rewind {
+            cut: way.cut,
+            cycle: way.cycle,
+            lists: true,
+        }),
+        Command::BackTo(search) => Command::BackTo(Search {
+            what: search.what,
+            count: search.count,
+            lists: true,
+        }),
+        other => other,
+    }
+}
+
+/// Parses how to go back: to a cycle, by some boundaries, or to what a search finds.
+#[tactic(auto, unfolding(crate::specs::Command::way_back, crate::specs::Command::IsCommandInRange))]
+fn read_way_back(names: &Option<SymbolTable>, words: &[u8]) -> Result<Command, CommandFault>
+    ensures back { result ≡ way_back names.now (words_of words.now) }
+    ensures range { IfOk result IsCommandInRange }
+{
+    let (first, rest) = next_word(words).ok_or(CommandFault::Usage(CommandName::Back))?;
     if is_word(first, "step") {
         return read_back_step(rest);
     }
@@ -510,7 +575,11 @@ fn read_back(names: &Option<SymbolTable>, words: &[u8]) -> Result<Command, Comma
     }
     let cycle = only_word(CommandName::Back, words)?;
     let cycle = read_cycles(cycle)?;
-    Ok(Command::Back { cut: cycle, cycle })
+    Ok(Command::Back(Rewind {
+        cut: cycle,
+        cycle,
+        lists: false,
+    }))
 }
 
 #[tactic(auto, unfolding(crate::specs::Command::back_step, crate::specs::Command::IsCommandInRange))]
@@ -519,17 +588,18 @@ fn read_back_step(words: &[u8]) -> Result<Command, CommandFault>
     ensures range { IfOk result IsCommandInRange }
 {
     if next_word(words).is_none() {
-        return Ok(last_hit(agc_session::Breakpoint::Boundary));
+        return Ok(last_hit(Condition::Boundary));
     }
     let boundaries = only_word(CommandName::Back, words)?;
     let count = read_cycles(boundaries)?;
     if count == 0 {
         return Err(CommandFault::NoStep);
     }
-    Ok(Command::BackTo {
-        what: agc_session::Breakpoint::Boundary,
+    Ok(Command::BackTo(Search {
+        what: Condition::Boundary,
         count,
-    })
+        lists: false,
+    }))
 }
 
 #[tactic(auto, unfolding(crate::specs::Command::back_until, crate::specs::Command::IsCommandInRange))]
@@ -545,11 +615,7 @@ fn read_back_until(names: &Option<SymbolTable>, words: &[u8]) -> Result<Command,
     } else if is_word(first, "interrupt") {
         read_back_interrupt(rest)
     } else if is_word(first, "panel") {
-        alone(
-            last_hit(agc_session::Breakpoint::Panel),
-            CommandName::Back,
-            rest,
-        )
+        alone(last_hit(Condition::Panel), CommandName::Back, rest)
     } else {
         read_back_place(names, words)
     }
@@ -557,12 +623,16 @@ fn read_back_until(names: &Option<SymbolTable>, words: &[u8]) -> Result<Command,
 
 /// Returns the search for the last hit.
 #[tactic(auto, unfolding(crate::specs::Command::IsCommandInRange))]
-fn last_hit(what: agc_session::Breakpoint) -> Command
-    requires { IsSoughtInRange what }
+fn last_hit(what: Condition) -> Command
+    requires { IsConditionInRange what }
     ensures command { result ≡ last_hit what }
     ensures range { IsCommandInRange result }
 {
-    Command::BackTo { what, count: 1 }
+    Command::BackTo(Search {
+        what,
+        count: 1,
+        lists: false,
+    })
 }
 
 fn read_back_write(words: &[u8]) -> Result<Command, CommandFault>
@@ -582,14 +652,14 @@ fn read_back_word(channel: u16, words: &[u8]) -> Result<Command, CommandFault>
 {
     let channel = Some(channel);
     let Some((word, rest)) = next_word(words) else {
-        return Ok(last_hit(agc_session::Breakpoint::Write {
+        return Ok(last_hit(Condition::Write {
             channel,
             word: None,
         }));
     };
     let word = Some(read_word(word)?);
     alone(
-        last_hit(agc_session::Breakpoint::Write { channel, word }),
+        last_hit(Condition::Write { channel, word }),
         CommandName::Back,
         rest,
     )
@@ -602,7 +672,7 @@ fn read_back_cell(names: &Option<SymbolTable>, words: &[u8]) -> Result<Command, 
 {
     let word = only_word(CommandName::Back, words)?;
     let cell = read_cell(names, word)?;
-    Ok(last_hit(agc_session::Breakpoint::Cell(cell)))
+    Ok(last_hit(Condition::Cell(cell)))
 }
 
 #[tactic(auto, unfolding(crate::specs::Command::back_interrupt, crate::specs::Command::IsCommandInRange))]
@@ -611,11 +681,11 @@ fn read_back_interrupt(words: &[u8]) -> Result<Command, CommandFault>
     ensures range { IfOk result IsCommandInRange }
 {
     if next_word(words).is_none() {
-        return Ok(last_hit(agc_session::Breakpoint::Interrupt(None)));
+        return Ok(last_hit(Condition::Interrupt(None)));
     }
     let word = only_word(CommandName::Back, words)?;
     let rupt = read_interrupt(word)?;
-    Ok(last_hit(agc_session::Breakpoint::Interrupt(Some(rupt))))
+    Ok(last_hit(Condition::Interrupt(Some(rupt))))
 }
 
 #[tactic(auto, unfolding(crate::specs::Command::IsCommandInRange))]
@@ -625,5 +695,5 @@ fn read_back_place(names: &Option<SymbolTable>, words: &[u8]) -> Result<Command,
 {
     let word = only_word(CommandName::Back, words)?;
     let place = read_place(names, word)?;
-    Ok(last_hit(agc_session::Breakpoint::Order(place)))
+    Ok(last_hit(Condition::Order(place)))
 }

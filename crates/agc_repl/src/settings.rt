@@ -1,6 +1,6 @@
 //! What a console is set to: its numbered breakpoints, and whether runs print their channel writes.
 ghost use Rattle.std.specs.Prelude.{◌≡◌, OnErr, OnOk};
-ghost use Rattle.agc_repl.specs.Command.{IsTriggerInRange};
+ghost use Rattle.agc_repl.specs.Command.{IsBreakpointInRange};
 ghost use Rattle.agc_repl.specs.Settings.{
   AreInRange,
   at_first,
@@ -12,7 +12,7 @@ ghost use Rattle.agc_repl.specs.Settings.{
   without_number,
 };
 
-use crate::command::Trigger;
+use agc_session::Condition;
 use std::alloc::{AllocError, Global};
 use std::marker::Model;
 
@@ -23,7 +23,7 @@ const MOST_BREAKPOINTS: usize = 64;
 #[derive(Clone, Copy, Debug, PartialEq, Eq)]
 pub struct Numbered {
     pub number: u64,
-    pub what: Trigger,
+    pub what: Condition,
 }
 
 /// The settings of a console.
@@ -94,8 +94,8 @@ impl Settings {
     }
 
     /// Adds a breakpoint. If memory runs out, changes nothing.
-    pub(crate) fn add(&mut self, what: &Trigger) -> Result<(), AllocError>
-        requires { IsTriggerInRange what.now }
+    pub(crate) fn add(&mut self, what: &Condition) -> Result<(), AllocError>
+        requires { IsBreakpointInRange what.now }
         ensures ok { OnOk result (self.new ≡ with_breakpoint what.now self.old) }
         ensures err { OnErr result (self.new ≡ self.old) }
     {

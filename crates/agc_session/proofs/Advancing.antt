@@ -7,11 +7,11 @@ use Rattle.agc_machine.specs.State.{State}
 use Rattle.agc_machine.specs.declared.answer.Stepped.{Stepped}
 use Rattle.agc_machine.specs.declared.answer.Stepped.TheVariants as stepped
 use Rattle.agc_panel.specs.declared.face.Face.{Face}
-use Rattle.agc_session.specs.Breakpoint.{AreHits, AreHitsOfOne, Meets, panel_after, panel_later}
+use Rattle.agc_session.specs.Condition.{AreHits, AreHitsOfOne, Meets, panel_after, panel_later}
 use Rattle.agc_session.specs.Search.{HasAdvanced, cycles_of}
 use Rattle.agc_session.specs.Session.{BeginBefore, shown_after}
-use Rattle.agc_session.specs.declared.breakpoint.Breakpoint.{Breakpoint}
-use Rattle.agc_session.specs.declared.breakpoint.Breakpoint.TheVariants as breakpoint
+use Rattle.agc_session.specs.declared.condition.Condition.{Condition}
+use Rattle.agc_session.specs.declared.condition.Condition.TheVariants as condition
 use Rattle.agc_session.proofs.Boundaries.{after_next, panel_next}
 use Rattle.agc_session.proofs.Hits.{hits_join, hits_of_one}
 
@@ -27,16 +27,16 @@ same_panel (suc n) panel s h =
     same_panel n (panel_after panel s) (boundary None s).0 h.1 ∙ ap (λ (answer : Stepped). shown_after answer panel) h.0
 
 -- this many quiet boundaries do not hit, and each ends before a cycle
-pub record AreMissed (b : Breakpoint) (cycle n : ℕ) (panel : Face) (s : State) : Type 0 where
+pub record AreMissed (b : Condition) (cycle n : ℕ) (panel : Face) (s : State) : Type 0 where
   pub quiet : AreQuiet n s
   pub before : BeginBefore n cycle (boundary None s).0
   pub none : AreHits b n panel s []
 
-pub none_missed : (b : Breakpoint) (cycle : ℕ) (panel : Face) (s : State) → AreMissed b cycle 0 panel s
+pub none_missed : (b : Condition) (cycle : ℕ) (panel : Face) (s : State) → AreMissed b cycle 0 panel s
 unfolding AreHits AreQuiet BeginBefore
 none_missed b cycle panel s = record { quiet = tt; before = tt; none = refl }
 
-pub advances : (b : Breakpoint) (cycle n : ℕ) (panel shown : Face) (s t : State) (hit : Option ℕ) → AreMissed b cycle n panel s
+pub advances : (b : Condition) (cycle n : ℕ) (panel shown : Face) (s t : State) (hit : Option ℕ) → AreMissed b cycle n panel s
     → t ≡ (boundary None (after n s)).0 → shown ≡ panel_after panel (after n s) → AreHitsOfOne b panel (after n s) (cycles_of hit)
     → HasAdvanced b cycle panel shown s t hit
 advances b cycle n panel shown s t hit missed now shows one =
@@ -53,7 +53,7 @@ advances b cycle n panel shown s t hit missed now shows one =
     }
 
 -- the boundary after them hits
-pub last_hits : (b : Breakpoint) (cycle n : ℕ) (panel shown : Face) (s t : State) (began : ℕ) → AreMissed b cycle n panel s
+pub last_hits : (b : Condition) (cycle n : ℕ) (panel shown : Face) (s t : State) (began : ℕ) → AreMissed b cycle n panel s
     → t ≡ (boundary None (after n s)).0 → shown ≡ panel_after panel (after n s) → (after n s).stopped ≡ None → began ≡ (after n s).cycle
     → Meets b panel (after n s) → HasAdvanced b cycle panel shown s t (Some began)
 last_hits b cycle n panel shown s t began missed now shows runs begins meets =
@@ -61,12 +61,12 @@ last_hits b cycle n panel shown s t began missed now shows runs begins meets =
     (inl (record { runs = runs; meets = meets }, ap (λ (c : ℕ). c ∷ []) begins))
 
 -- it does not
-pub last_misses : (b : Breakpoint) (cycle n : ℕ) (panel shown : Face) (s t : State) → AreMissed b cycle n panel s
+pub last_misses : (b : Condition) (cycle n : ℕ) (panel shown : Face) (s t : State) → AreMissed b cycle n panel s
     → t ≡ (boundary None (after n s)).0 → shown ≡ panel_after panel (after n s) → (Meets b panel (after n s) → ⊥)
     → HasAdvanced b cycle panel shown s t None
 last_misses b cycle n panel shown s t missed now shows miss =
     advances b cycle n panel shown s t None missed now shows (inr (λ hit. miss hit.meets, refl))
 
-pub boundary_hits : (panel : Face) (s : State) → Meets breakpoint.Boundary panel s
+pub boundary_hits : (panel : Face) (s : State) → Meets condition.Boundary panel s
 unfolding Meets
 boundary_hits panel s = tt

@@ -8,11 +8,11 @@ use Rattle.agc_machine.specs.Laws.{after}
 use Rattle.agc_machine.specs.State.{State, start_state}
 use Rattle.agc_panel.specs.Face.{panel_of}
 use Rattle.agc_panel.specs.declared.face.Face.{Face}
-use Rattle.agc_session.specs.Breakpoint.{AreHits, HasFewerHits, Hits, IsFoundBack, IsFoundFrom, IsLastHit, panel_at, panel_later}
+use Rattle.agc_session.specs.Condition.{AreHits, HasFewerHits, Hits, IsFoundBack, IsFoundFrom, IsLastHit, panel_at, panel_later}
 use Rattle.agc_session.specs.Checkpoints.{Fits, IsCheckpoint, IsOnRun}
 use Rattle.agc_session.specs.Search.{HasSearched, IsAt, IsSearching, resumed}
 use Rattle.agc_session.specs.Session.{IsSession, SessionState, script_of, start_with}
-use Rattle.agc_session.specs.declared.breakpoint.Breakpoint.{Breakpoint}
+use Rattle.agc_session.specs.declared.condition.Condition.{Condition}
 use Rattle.agc_session.specs.declared.checkpoint.Checkpoint.{Checkpoint}
 use Rattle.agc_session.specs.declared.search.Found.{Found}
 use Rattle.agc_session.specs.declared.search.Found.TheVariants as found
@@ -25,7 +25,7 @@ use Rattle.agc_session.proofs.Hits.{find_hit, hits_join}
 use Rattle.agc_session.proofs.OneRun.{after_is_last}
 
 -- nothing is searched yet
-pub searching_starts : (b : Breakpoint) (count n : ℕ) (start now : State) (point : Point) → 0 < count → IsAt point now → after n start ≡ now
+pub searching_starts : (b : Condition) (count n : ℕ) (start now : State) (point : Point) → 0 < count → IsAt point now → after n start ≡ now
     → IsSearching b count count start now point
 unfolding AreHits after
 searching_starts b count n start now point some at e = record {
@@ -57,7 +57,7 @@ unfolding after panel_later
 reached_at_start start s panel e p = record { boundaries = 0; state = sym e; shown = sym p }
 
 -- a state at an earlier cycle of a run comes before a later one
-pub comes_before : (start s : State) (panel : Face) (b : Breakpoint) (count wanted : ℕ) (now : State) (point : Point) (r : Reached start s panel)
+pub comes_before : (start s : State) (panel : Face) (b : Condition) (count wanted : ℕ) (now : State) (point : Point) (r : Reached start s panel)
     (h : IsSearching b count wanted start now point) → s.cycle < point.cycle → r.boundaries ≤ h.earlier
 comes_before start s panel b count wanted now point r h less =
     elim (leb_tells r.boundaries h.earlier) as (λ _. r.boundaries ≤ h.earlier) [
@@ -71,14 +71,14 @@ comes_before start s panel b count wanted now point r h less =
     ]
 
 -- The stretch from a state of the run to the point, and the way from there to now.
-record Longer (b : Breakpoint) (wanted : ℕ) (start now : State) (k : ℕ) (cycles : List ℕ) (answer : Found) : Type 0 where
+record Longer (b : Condition) (wanted : ℕ) (start now : State) (k : ℕ) (cycles : List ℕ) (answer : Found) : Type 0 where
   pub n : ℕ
   pub searched : HasSearched b wanted n (panel_at k start) (after k start) answer
   pub later : ℕ
   pub now_then : after later (after k start) ≡ now
   pub hits : AreHits b later (panel_at k start) (after k start) (searched.cycles ++ cycles)
 
-goes_back : (b : Breakpoint) (count wanted : ℕ) (start now s : State) (panel : Face) (point : Point) (found : Found) (h : IsSearching b count wanted start now point)
+goes_back : (b : Condition) (count wanted : ℕ) (start now s : State) (panel : Face) (point : Point) (found : Found) (h : IsSearching b count wanted start now point)
     (r : Reached start s panel) → r.boundaries ≤ h.earlier → ((n : ℕ) → IsAt point (after n s) → HasSearched b wanted n panel s found)
     → Longer b wanted start now r.boundaries h.cycles found
 goes_back b count wanted start now s panel point found h r le f =
@@ -102,7 +102,7 @@ goes_back b count wanted start now s panel point found h r le f =
           (subst (λ (t : State). AreHits b h.later (panel_at h.earlier start) t h.cycles) (sym there) h.hits));
     }
 
-pub searching_on : (b : Breakpoint) (count wanted : ℕ) (start now s : State) (panel : Face) (point next : Point) (number : ℕ)
+pub searching_on : (b : Condition) (count wanted : ℕ) (start now s : State) (panel : Face) (point next : Point) (number : ℕ)
     (h : IsSearching b count wanted start now point) (r : Reached start s panel) → r.boundaries ≤ h.earlier
     → ((n : ℕ) → IsAt point (after n s) → HasSearched b wanted n panel s (found.Fewer number)) → IsAt next s
     → IsSearching b count (wanted - number) start now next
@@ -119,7 +119,7 @@ searching_on b count wanted start now s panel point next number h r le f at =
       some = omega (arith, longer.searched.found.1);
     }
 
-last_hit_at : (b : Breakpoint) (count : ℕ) (start now : State) (cycle earlier later : ℕ) (s : State) (panel : Face) (cycles : List ℕ)
+last_hit_at : (b : Condition) (count : ℕ) (start now : State) (cycle earlier later : ℕ) (s : State) (panel : Face) (cycles : List ℕ)
     → after earlier start ≡ s → panel_at earlier start ≡ panel → after later s ≡ now → s.cycle ≡ cycle → Hits b panel s → AreHits b later panel s cycles
     → length cycles ≡ count → IsLastHit b count start now cycle
 last_hit_at b count start now cycle earlier later s panel cycles e p there begins hits since number = record {
@@ -133,7 +133,7 @@ last_hit_at b count start now cycle earlier later s panel cycles e p there begin
   number = number;
 }
 
-pub found_there : (b : Breakpoint) (count wanted : ℕ) (start now s : State) (panel : Face) (point : Point) (cycle : ℕ)
+pub found_there : (b : Condition) (count wanted : ℕ) (start now s : State) (panel : Face) (point : Point) (cycle : ℕ)
     (h : IsSearching b count wanted start now point) (r : Reached start s panel) → r.boundaries ≤ h.earlier
     → ((n : ℕ) → IsAt point (after n s) → HasSearched b wanted n panel s (found.At cycle)) → IsLastHit b count start now cycle
 found_there b count wanted start now s panel point cycle h r le f =
@@ -152,7 +152,7 @@ found_there b count wanted start now s panel point cycle h r le f =
     at.begins at.hits at.since
     (omega (arith, at.number, found.3, h.rest, length-append found.1 h.cycles))
 
-pub fewer_there : (b : Breakpoint) (count wanted : ℕ) (start now s : State) (panel : Face) (point : Point) (number : ℕ)
+pub fewer_there : (b : Condition) (count wanted : ℕ) (start now s : State) (panel : Face) (point : Point) (number : ℕ)
     (h : IsSearching b count wanted start now point) → s ≡ start → panel ≡ panel_of []
     → ((n : ℕ) → IsAt point (after n s) → HasSearched b wanted n panel s (found.Fewer number)) → HasFewerHits b count start now
 unfolding after panel_later
@@ -168,7 +168,7 @@ fewer_there b count wanted start now s panel point number h e p f =
     }
 
 -- what a search from the start of the run found, in the terms of the session
-pub when_found : {E : Type 0} (b : Breakpoint) (count : ℕ) (inside now : SessionState) (script : List Event) (result : Result (Option ℕ) E) → inside ≡ now
+pub when_found : {E : Type 0} (b : Condition) (count : ℕ) (inside now : SessionState) (script : List Event) (result : Result (Option ℕ) E) → inside ≡ now
     → IsSession inside → script ≡ script_of now
     → IfOk result (λ found. (n : ℕ) → after n (start_with script inside.now) ≡ inside.now → IsFoundFrom b count (start_with script inside.now) inside.now found)
     → IfOk result (λ found. IsFoundBack b count now found)
@@ -206,7 +206,7 @@ reached_at_copy words limit script copy h fits =
     reached_on_run (start_state words script limit None) (resumed script copy) copy.panel copy.writes way.on_run
 
 -- one more stretch is searched back
-pub copy_searched : (b : Breakpoint) (count wanted words_limit : ℕ) (words : List Number) (script : List Event) (now : State) (point next : Point) (number : ℕ) (copy : Checkpoint)
+pub copy_searched : (b : Condition) (count wanted words_limit : ℕ) (words : List Number) (script : List Event) (now : State) (point next : Point) (number : ℕ) (copy : Checkpoint)
     → IsCheckpoint words words_limit copy → Fits script copy → copy.machine.cycle < point.cycle
     → ((n : ℕ) → IsAt point (after n (resumed script copy)) → HasSearched b wanted n copy.panel (resumed script copy) (found.Fewer number))
     → IsAt next (resumed script copy) → IsSearching b count wanted (start_state words script words_limit None) now point
@@ -217,7 +217,7 @@ copy_searched b count wanted limit words script now point next number copy h fit
     searching_on b count wanted start now (resumed script copy) copy.panel point next number searching r
     (comes_before start (resumed script copy) copy.panel b count wanted now point r searching less) f at
 
-pub copy_found : (b : Breakpoint) (count wanted limit : ℕ) (words : List Number) (script : List Event) (now : State) (point : Point) (cycle : ℕ) (copy : Checkpoint)
+pub copy_found : (b : Condition) (count wanted limit : ℕ) (words : List Number) (script : List Event) (now : State) (point : Point) (cycle : ℕ) (copy : Checkpoint)
     → IsCheckpoint words limit copy → Fits script copy → copy.machine.cycle < point.cycle
     → ((n : ℕ) → IsAt point (after n (resumed script copy)) → HasSearched b wanted n copy.panel (resumed script copy) (found.At cycle))
     → IsSearching b count wanted (start_state words script limit None) now point → IsLastHit b count (start_state words script limit None) now cycle
@@ -228,7 +228,7 @@ copy_found b count wanted limit words script now point cycle copy h fits less f 
     (comes_before start (resumed script copy) copy.panel b count wanted now point r searching less) f
 
 -- the stretch from the start is the last one
-pub start_found : (b : Breakpoint) (count wanted : ℕ) (script : List Event) (now : State) (point : Point) (cycle : ℕ) (copy : Checkpoint)
+pub start_found : (b : Condition) (count wanted : ℕ) (script : List Event) (now : State) (point : Point) (cycle : ℕ) (copy : Checkpoint)
     → resumed script copy ≡ start_with script now → copy.panel ≡ panel_of []
     → ((n : ℕ) → IsAt point (after n (resumed script copy)) → HasSearched b wanted n copy.panel (resumed script copy) (found.At cycle))
     → IsSearching b count wanted (start_with script now) now point → IsLastHit b count (start_with script now) now cycle
@@ -238,7 +238,7 @@ start_found b count wanted script now point cycle copy e p f searching =
     let r : Reached start (resumed script copy) copy.panel = record { boundaries = 0; state = sym e; shown = sym p } in
     found_there b count wanted start now (resumed script copy) copy.panel point cycle searching r (omega arith) f
 
-pub start_fewer : (b : Breakpoint) (count wanted : ℕ) (script : List Event) (now : State) (point : Point) (number : ℕ) (copy : Checkpoint)
+pub start_fewer : (b : Condition) (count wanted : ℕ) (script : List Event) (now : State) (point : Point) (number : ℕ) (copy : Checkpoint)
     → resumed script copy ≡ start_with script now → copy.panel ≡ panel_of []
     → ((n : ℕ) → IsAt point (after n (resumed script copy)) → HasSearched b wanted n copy.panel (resumed script copy) (found.Fewer number))
     → IsSearching b count wanted (start_with script now) now point → HasFewerHits b count (start_with script now) now

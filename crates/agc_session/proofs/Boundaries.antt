@@ -17,7 +17,7 @@ use Rattle.agc_machine.proofs.Taking.{IsLeft, chain_later, chain_left}
 use Rattle.agc_panel.specs.Face.{panel_of}
 use Rattle.agc_panel.specs.declared.face.Face.{Face}
 use Rattle.agc_panel.proofs.Taken.{face_after-append}
-use Rattle.agc_session.specs.Breakpoint.{panel_after, panel_later}
+use Rattle.agc_session.specs.Condition.{panel_after, panel_later}
 use Rattle.agc_session.specs.Search.{span}
 use Rattle.agc_session.specs.Session.{shown_after}
 use Rattle.agc_session.proofs.OneRun.{after_is_last}

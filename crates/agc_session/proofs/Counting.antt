@@ -8,10 +8,10 @@ use Rattle.agc_machine.specs.Laws.{after}
 use Rattle.agc_machine.specs.State.{State}
 use Rattle.agc_machine.specs.declared.answer.Stop.{Stop}
 use Rattle.agc_panel.specs.declared.face.Face.{Face}
-use Rattle.agc_session.specs.Breakpoint.{AreHits, panel_later}
+use Rattle.agc_session.specs.Condition.{AreHits, panel_later}
 use Rattle.agc_session.specs.Search.{HasAdvanced, HasCounted, HasSearched, IsAt, IsCountOf, IsCounting, cycles_of, span}
 use Rattle.agc_session.specs.Session.{BeginBefore}
-use Rattle.agc_session.specs.declared.breakpoint.Breakpoint.{Breakpoint}
+use Rattle.agc_session.specs.declared.condition.Condition.{Condition}
 use Rattle.agc_session.specs.declared.search.Counted.{Counted}
 use Rattle.agc_session.specs.declared.search.Found.TheVariants as found
 use Rattle.agc_session.specs.declared.search.Point.{Point}
@@ -19,7 +19,7 @@ use Rattle.agc_session.proofs.Boundaries.{after_plus, panel_plus}
 use Rattle.agc_session.proofs.Hits.{few_hits, hits_join, hits_split, none_at_point, none_at_stop, same_hits, span_moves}
 
 -- nothing is counted yet
-pub counting_starts : (b : Breakpoint) (n : ℕ) (panel : Face) (s : State) (hits : Counted) → hits.number ≡ 0 → IsCounting b n panel panel s s hits
+pub counting_starts : (b : Condition) (n : ℕ) (panel : Face) (s : State) (hits : Counted) → hits.number ≡ 0 → IsCounting b n panel panel s s hits
 unfolding AreHits after panel_later
 counting_starts b n panel s hits e = record {
   boundaries = 0;
@@ -46,14 +46,14 @@ some_left_by more zero t point at not before l = not at
 some_left_by more (suc left) t point at not before l =
     omega (arith, at.cycle, begins_at more left point.cycle (boundary None t).0 before (omega (arith, l)))
 
-point_after : (b : Breakpoint) (n : ℕ) (panel shown : Face) (s t : State) (counted : Counted) (point : Point) (h : IsCounting b n panel shown s t counted)
+point_after : (b : Condition) (n : ℕ) (panel shown : Face) (s t : State) (counted : Counted) (point : Point) (h : IsCounting b n panel shown s t counted)
     → IsAt point (after n s) → IsAt point (after h.left t)
 point_after b n panel shown s t counted point h at =
     let last : after h.left t ≡ after n s =
     ap (λ (u : State). after h.left u) (sym h.now) ∙ sym (after_plus h.boundaries h.left s) ∙ ap (λ (k : ℕ). after k s) h.parts in
     subst (λ (u : State). IsAt point u) (sym last) at
 
-enough_left : (b : Breakpoint) (n : ℕ) (panel shown later_shown : Face) (s t u : State) (counted : Counted) (point : Point) (hit : Option ℕ)
+enough_left : (b : Condition) (n : ℕ) (panel shown later_shown : Face) (s t u : State) (counted : Counted) (point : Point) (hit : Option ℕ)
     (h : IsCounting b n panel shown s t counted) (a : HasAdvanced b point.cycle shown later_shown t u hit) → IsAt point (after n s) → (IsAt point t → ⊥)
     → suc a.more ≤ h.left
 enough_left b n panel shown later_shown s t u counted point hit h a at not =
@@ -63,7 +63,7 @@ enough_left b n panel shown later_shown s t u counted point hit h a at not =
     ]
 
 -- some more boundaries
-counts_more : (b : Breakpoint) (n : ℕ) (panel shown later_shown : Face) (s t u : State) (counted : Counted) (point : Point) (hit : Option ℕ) (next : Counted)
+counts_more : (b : Condition) (n : ℕ) (panel shown later_shown : Face) (s t u : State) (counted : Counted) (point : Point) (hit : Option ℕ) (next : Counted)
     → (h : IsCounting b n panel shown s t counted) → IsAt point (after n s) → (IsAt point t → ⊥) → HasAdvanced b point.cycle shown later_shown t u hit
     → IsCountOf (h.cycles ++ cycles_of hit) next → IsCounting b n panel later_shown s u next
 counts_more b n panel shown later_shown s t u counted point hit next h at not a count =
@@ -84,14 +84,14 @@ counts_more b n panel shown later_shown s t u counted point hit next h at not a 
       count = count;
     }
 
-pub counts_hit : (b : Breakpoint) (n : ℕ) (panel shown later_shown : Face) (s t u : State) (counted : Counted) (point : Point) (cycle : ℕ)
+pub counts_hit : (b : Condition) (n : ℕ) (panel shown later_shown : Face) (s t u : State) (counted : Counted) (point : Point) (cycle : ℕ)
     → IsCounting b n panel shown s t counted → IsAt point (after n s) → (IsAt point t → ⊥) → HasAdvanced b point.cycle shown later_shown t u (Some cycle)
     → IsCounting b n panel later_shown s u (record { number = counted.number + 1; last = cycle })
 counts_hit b n panel shown later_shown s t u counted point cycle h at not a =
     counts_more b n panel shown later_shown s t u counted point (Some cycle) (record { number = counted.number + 1; last = cycle }) h at not a
     (record { number = omega (arith, h.count.number, length-append h.cycles (cycle ∷ [])); last = λ _. (h.cycles, refl) })
 
-pub counts_miss : (b : Breakpoint) (n : ℕ) (panel shown later_shown : Face) (s t u : State) (counted : Counted) (point : Point)
+pub counts_miss : (b : Condition) (n : ℕ) (panel shown later_shown : Face) (s t u : State) (counted : Counted) (point : Point)
     → IsCounting b n panel shown s t counted → IsAt point (after n s) → (IsAt point t → ⊥) → HasAdvanced b point.cycle shown later_shown t u None
     → IsCounting b n panel later_shown s u counted
 counts_miss b n panel shown later_shown s t u counted point h at not a =
@@ -104,7 +104,7 @@ unfolding BeginBefore
 begins_within zero cycle end s l h = tt
 begins_within (suc n) cycle end s l h = (omega (arith, l, h.0), begins_within n cycle end (boundary None s).0 l h.1)
 
-pub advances_within : (b : Breakpoint) (cycle end : ℕ) (panel shown : Face) (s t : State) (hit : Option ℕ) → cycle ≤ end
+pub advances_within : (b : Condition) (cycle end : ℕ) (panel shown : Face) (s t : State) (hit : Option ℕ) → cycle ≤ end
     → HasAdvanced b cycle panel shown s t hit → HasAdvanced b end panel shown s t hit
 advances_within b cycle end panel shown s t hit l a = record {
   more = a.more;
@@ -115,7 +115,7 @@ advances_within b cycle end panel shown s t hit l a = record {
 }
 
 -- fewer boundaries are left after it
-pub span_advances : (b : Breakpoint) (cycle : ℕ) (panel shown : Face) (s t : State) (hit : Option ℕ) → s.stopped ≡ None
+pub span_advances : (b : Condition) (cycle : ℕ) (panel shown : Face) (s t : State) (hit : Option ℕ) → s.stopped ≡ None
     → HasAdvanced b cycle panel shown s t hit → span t < span s
 span_advances b cycle panel shown s t hit runs a = subst (λ (u : State). span u < span s) a.now (span_moves a.more s runs)
 
@@ -124,14 +124,14 @@ stop_known : (stopped : Option Stop) → IsSome stopped → (why : Stop) × (sto
 stop_known (Some why) h = (why, refl)
 stop_known None h = cc
 
-ended : (b : Breakpoint) (n : ℕ) (panel shown : Face) (s t : State) (hits : Counted) (point : Point) → (h : IsCounting b n panel shown s t hits)
+ended : (b : Condition) (n : ℕ) (panel shown : Face) (s t : State) (hits : Counted) (point : Point) → (h : IsCounting b n panel shown s t hits)
     → IsAt point (after n s) → IsAt point t ⊎ IsSome t.stopped → AreHits b h.left shown t []
 ended b n panel shown s t hits point h at (inl there) =
     none_at_point b h.left shown t point there (point_after b n panel shown s t hits point h at)
 ended b n panel shown s t hits point h at (inr stopped) =
     let known = stop_known t.stopped stopped in none_at_stop b h.left shown t known.0 known.1
 
-pub has_counted : (b : Breakpoint) (n most : ℕ) (panel shown : Face) (s t : State) (hits : Counted) (point : Point) → IsCounting b n panel shown s t hits
+pub has_counted : (b : Condition) (n most : ℕ) (panel shown : Face) (s t : State) (hits : Counted) (point : Point) → IsCounting b n panel shown s t hits
     → hits.number ≤ most → IsAt point (after n s) → (most ≤ hits.number) ⊎ (IsAt point t ⊎ IsSome t.stopped) → HasCounted b n most panel s hits
 has_counted b n most panel shown s t hits point h few at (inl enough) = record {
   boundaries = h.boundaries;
@@ -157,14 +157,14 @@ has_counted b n most panel shown s t hits point h few at (inr end) = record {
 }
 
 -- all hits of a stretch, if the count has not ended before it
-all_hits : (b : Breakpoint) (n most : ℕ) (panel : Face) (s : State) (hits : Counted) (h : HasCounted b n most panel s hits)
+all_hits : (b : Condition) (n most : ℕ) (panel : Face) (s : State) (hits : Counted) (h : HasCounted b n most panel s hits)
     → AreHits b h.left (panel_later h.boundaries panel s) (after h.boundaries s) [] → AreHits b n panel s h.cycles
 all_hits b n most panel s hits h none =
     subst (λ (k : ℕ). AreHits b k panel s h.cycles) h.parts
     (subst (λ (l : List ℕ). AreHits b (h.boundaries + h.left) panel s l) (append-nil h.cycles)
     (hits_join b h.boundaries h.left panel s h.cycles [] h.hits none))
 
-pub whole_count : (b : Breakpoint) (n most : ℕ) (panel : Face) (s : State) (hits : Counted) (h : HasCounted b n most panel s hits) → span s < most
+pub whole_count : (b : Condition) (n most : ℕ) (panel : Face) (s : State) (hits : Counted) (h : HasCounted b n most panel s hits) → span s < most
     → AreHits b n panel s h.cycles
 whole_count b n most panel s hits h short =
     elim h.done as (λ _. AreHits b n panel s h.cycles) [
@@ -173,7 +173,7 @@ whole_count b n most panel s hits h short =
     ]
 
 -- the stretch has too few hits
-pub finds_fewer : (b : Breakpoint) (n wanted most : ℕ) (panel : Face) (s : State) (hits : Counted) → HasCounted b n most panel s hits → span s < most
+pub finds_fewer : (b : Condition) (n wanted most : ℕ) (panel : Face) (s : State) (hits : Counted) → HasCounted b n most panel s hits → span s < most
     → hits.number < wanted → HasSearched b wanted n panel s (found.Fewer hits.number)
 finds_fewer b n wanted most panel s hits h short less = record {
   cycles = h.cycles;
@@ -182,7 +182,7 @@ finds_fewer b n wanted most panel s hits h short less = record {
 }
 
 -- its last hit was wanted
-pub finds_last : (b : Breakpoint) (n wanted most : ℕ) (panel : Face) (s : State) (hits : Counted) → HasCounted b n most panel s hits → span s < most
+pub finds_last : (b : Condition) (n wanted most : ℕ) (panel : Face) (s : State) (hits : Counted) → HasCounted b n most panel s hits → span s < most
     → wanted ≡ 1 → wanted ≤ hits.number → HasSearched b wanted n panel s (found.At hits.last)
 finds_last b n wanted most panel s hits h short one some =
     let last = h.count.last (omega (arith, h.count.number, some, one)) in
@@ -193,7 +193,7 @@ finds_last b n wanted most panel s hits h short one some =
     }
 
 -- an earlier one was wanted
-number_of_first : (b : Breakpoint) (n most first_most : ℕ) (panel : Face) (s : State) (all first : Counted) → HasCounted b n most panel s all → span s < most
+number_of_first : (b : Condition) (n most first_most : ℕ) (panel : Face) (s : State) (all first : Counted) → HasCounted b n most panel s all → span s < most
     → HasCounted b n first_most panel s first → first_most ≤ all.number → first.number ≡ first_most
 number_of_first b n most first_most panel s all first h short k le =
     elim k.done as (λ _. first.number ≡ first_most) [
@@ -204,7 +204,7 @@ number_of_first b n most first_most panel s all first h short k le =
           omega (arith, k.few, le, h.count.number, k.count.number, ap length same)
     ]
 
-pub finds_earlier : (b : Breakpoint) (n wanted most first_most : ℕ) (panel : Face) (s : State) (all first : Counted) → HasCounted b n most panel s all
+pub finds_earlier : (b : Condition) (n wanted most first_most : ℕ) (panel : Face) (s : State) (all first : Counted) → HasCounted b n most panel s all
     → span s < most → HasCounted b n first_most panel s first → 0 < wanted → wanted ≤ all.number → first_most ≡ all.number - wanted + 1
     → HasSearched b wanted n panel s (found.At first.last)
 finds_earlier b n wanted most first_most panel s all first h short k some enough e =

@@ -10,14 +10,14 @@ use Rattle.agc_machine.specs.declared.answer.Stepped.{Stepped}
 use Rattle.agc_machine.specs.declared.answer.Stop.{Stop}
 use Rattle.agc_machine.proofs.Chain.{stopped_stays}
 use Rattle.agc_panel.specs.declared.face.Face.{Face}
-use Rattle.agc_session.specs.Breakpoint.{AreHits, AreHitsOfOne, Hits, panel_after, panel_later}
-use Rattle.agc_session.specs.declared.breakpoint.Breakpoint.{Breakpoint}
+use Rattle.agc_session.specs.Condition.{AreHits, AreHitsOfOne, Hits, panel_after, panel_later}
+use Rattle.agc_session.specs.declared.condition.Condition.{Condition}
 use Rattle.agc_session.specs.declared.search.Point.{Point}
 use Rattle.agc_session.specs.Search.{IsAt, span}
 use Rattle.agc_session.proofs.Boundaries.{same_limit, span_at_stop, span_falls}
 
 -- the hits of some boundaries, then those of more
-pub hits_join : (b : Breakpoint) (n m : ℕ) (panel : Face) (s : State) (l k : List ℕ) → AreHits b n panel s l
+pub hits_join : (b : Condition) (n m : ℕ) (panel : Face) (s : State) (l k : List ℕ) → AreHits b n panel s l
     → AreHits b m (panel_later n panel s) (after n s) k → AreHits b (n + m) panel s (l ++ k)
 unfolding AreHits after panel_later
 hits_join b zero m panel s l k h g =
@@ -28,14 +28,14 @@ hits_join b (suc n) m panel s l k h g =
     subst (λ (j : ℕ). AreHits b j panel s (l ++ k)) (sym count)
     (h.0, h.1 ++ k, h.2, hits_join b n m (panel_after panel s) (boundary None s).0 h.1 k h.3 g, ap (λ (x : List ℕ). x ++ k) h.4 ∙ append_assoc h.0 h.1 k)
 
-pub record Parts (b : Breakpoint) (n m : ℕ) (panel : Face) (s : State) (l : List ℕ) : Type 0 where
+pub record Parts (b : Condition) (n m : ℕ) (panel : Face) (s : State) (l : List ℕ) : Type 0 where
   pub one : List ℕ
   pub other : List ℕ
   pub first : AreHits b n panel s one
   pub rest : AreHits b m (panel_later n panel s) (after n s) other
   pub both : l ≡ one ++ other
 
-pub hits_split : (b : Breakpoint) (n m : ℕ) (panel : Face) (s : State) (l : List ℕ) → AreHits b (n + m) panel s l → Parts b n m panel s l
+pub hits_split : (b : Condition) (n m : ℕ) (panel : Face) (s : State) (l : List ℕ) → AreHits b (n + m) panel s l → Parts b n m panel s l
 unfolding AreHits after panel_later
 hits_split b zero m panel s l h =
     let e : zero + m ≡ m = omega arith in
@@ -53,13 +53,13 @@ hits_split b (suc n) m panel s l h =
     }
 
 -- a run has its hits once
-same_of_one : (b : Breakpoint) (panel : Face) (s : State) (x y : List ℕ) → AreHitsOfOne b panel s x → AreHitsOfOne b panel s y → x ≡ y
+same_of_one : (b : Condition) (panel : Face) (s : State) (x y : List ℕ) → AreHitsOfOne b panel s x → AreHitsOfOne b panel s y → x ≡ y
 same_of_one b panel s x y (inl h) (inl k) = h.1 ∙ sym k.1
 same_of_one b panel s x y (inl h) (inr k) = absurd (k.0 h.0)
 same_of_one b panel s x y (inr h) (inl k) = absurd (h.0 k.0)
 same_of_one b panel s x y (inr h) (inr k) = h.1 ∙ sym k.1
 
-pub same_hits : (b : Breakpoint) (n : ℕ) (panel : Face) (s : State) (x y : List ℕ) → AreHits b n panel s x → AreHits b n panel s y → x ≡ y
+pub same_hits : (b : Condition) (n : ℕ) (panel : Face) (s : State) (x y : List ℕ) → AreHits b n panel s x → AreHits b n panel s y → x ≡ y
 unfolding AreHits
 same_hits b zero panel s x y h k = h ∙ sym k
 same_hits b (suc n) panel s x y h k =
@@ -67,7 +67,7 @@ same_hits b (suc n) panel s x y h k =
     ∙ ap (λ (l : List ℕ). k.0 ++ l) (same_hits b n (panel_after panel s) (boundary None s).0 h.1 k.1 h.3 k.3) ∙ sym k.4
 
 -- a stopped machine hits nothing
-pub none_at_stop : (b : Breakpoint) (n : ℕ) (panel : Face) (s : State) (why : Stop) → s.stopped ≡ Some why → AreHits b n panel s []
+pub none_at_stop : (b : Condition) (n : ℕ) (panel : Face) (s : State) (why : Stop) → s.stopped ≡ Some why → AreHits b n panel s []
 unfolding AreHits
 none_at_stop b zero panel s why e = refl
 none_at_stop b (suc n) panel s why e =
@@ -76,7 +76,7 @@ none_at_stop b (suc n) panel s why e =
     ([], [], inr (not_one, refl), none_at_stop b n (panel_after panel s) (boundary None s).0 why still, refl)
 
 -- one boundary
-pub hits_of_one : (b : Breakpoint) (panel : Face) (s : State) (l : List ℕ) → AreHitsOfOne b panel s l → AreHits b 1 panel s l
+pub hits_of_one : (b : Condition) (panel : Face) (s : State) (l : List ℕ) → AreHitsOfOne b panel s l → AreHits b 1 panel s l
 unfolding AreHits
 hits_of_one b panel s l h = (l, [], h, refl, sym (append-nil l))
 
@@ -95,7 +95,7 @@ unfolding after
 span_later zero s = omega arith
 span_later (suc n) s = omega (arith, span_later n (boundary None s).0, span_stays s)
 
-pub few_hits : (b : Breakpoint) (n : ℕ) (panel : Face) (s : State) (l : List ℕ) → AreHits b n panel s l → length l ≤ span s
+pub few_hits : (b : Condition) (n : ℕ) (panel : Face) (s : State) (l : List ℕ) → AreHits b n panel s l → length l ≤ span s
 unfolding AreHits
 few_hits b zero panel s l h = omega (arith, ap length h)
 few_hits b (suc n) panel s l h =
@@ -125,18 +125,18 @@ not_moved n s point e h k =
     let less : span (after (suc n) s) < span s = span_moves n s e in
     omega (arith, less, runs_on s running, runs_on (after (suc n) s) still, same_left (suc n) s point h k)
 
-same_by : (stopped : Option Stop) (b : Breakpoint) (n : ℕ) (panel : Face) (s : State) (point : Point) → s.stopped ≡ stopped → IsAt point s
+same_by : (stopped : Option Stop) (b : Condition) (n : ℕ) (panel : Face) (s : State) (point : Point) → s.stopped ≡ stopped → IsAt point s
     → IsAt point (after n s) → AreHits b n panel s []
 unfolding AreHits
 same_by (Some why) b n panel s point e h k = none_at_stop b n panel s why e
 same_by None b zero panel s point e h k = refl
 same_by None b (suc n) panel s point e h k = absurd (not_moved n s point e h k)
 
-pub none_at_point : (b : Breakpoint) (n : ℕ) (panel : Face) (s : State) (point : Point) → IsAt point s → IsAt point (after n s) → AreHits b n panel s []
+pub none_at_point : (b : Condition) (n : ℕ) (panel : Face) (s : State) (point : Point) → IsAt point s → IsAt point (after n s) → AreHits b n panel s []
 none_at_point b n panel s point h k = same_by s.stopped b n panel s point refl h k
 
 -- the boundary of a hit
-pub record Position (b : Breakpoint) (n : ℕ) (panel : Face) (s : State) (cycle count : ℕ) : Type 0 where
+pub record Position (b : Condition) (n : ℕ) (panel : Face) (s : State) (cycle count : ℕ) : Type 0 where
   pub earlier : ℕ
   pub later : ℕ
   pub parts : earlier + later ≡ n
@@ -146,7 +146,7 @@ pub record Position (b : Breakpoint) (n : ℕ) (panel : Face) (s : State) (cycle
   pub since : AreHits b later (panel_later earlier panel s) (after earlier s) cycles
   pub number : length cycles ≡ count
 
-next_position : (b : Breakpoint) (n : ℕ) (panel : Face) (s : State) (cycle count : ℕ)
+next_position : (b : Condition) (n : ℕ) (panel : Face) (s : State) (cycle count : ℕ)
     → Position b n (panel_after panel s) (boundary None s).0 cycle count → Position b (suc n) panel s cycle count
 unfolding after panel_later
 next_position b n panel s cycle count p = record {
@@ -160,7 +160,7 @@ next_position b n panel s cycle count p = record {
   number = p.number;
 }
 
-hit_here : (b : Breakpoint) (n : ℕ) (panel : Face) (s : State) (front back : List ℕ) (cycle : ℕ) (l rest : List ℕ) → Hits b panel s
+hit_here : (b : Condition) (n : ℕ) (panel : Face) (s : State) (front back : List ℕ) (cycle : ℕ) (l rest : List ℕ) → Hits b panel s
     → AreHits b (suc n) panel s l → l ≡ s.cycle ∷ rest → l ≡ front ++ cycle ∷ back
     → ((front : List ℕ) → rest ≡ front ++ cycle ∷ back → Position b n (panel_after panel s) (boundary None s).0 cycle (length back + 1))
     → Position b (suc n) panel s cycle (length back + 1)
@@ -178,7 +178,7 @@ hit_here b n panel s [] back cycle l rest hit h e f go = record {
 hit_here b n panel s (one ∷ front) back cycle l rest hit h e f go =
     next_position b n panel s cycle (length back + 1) (go front (ap (λ (x : List ℕ). drop 1 x) (sym e ∙ f)))
 
-pub find_hit : (b : Breakpoint) (n : ℕ) (panel : Face) (s : State) (front back : List ℕ) (cycle : ℕ) (l : List ℕ) → AreHits b n panel s l
+pub find_hit : (b : Condition) (n : ℕ) (panel : Face) (s : State) (front back : List ℕ) (cycle : ℕ) (l : List ℕ) → AreHits b n panel s l
     → l ≡ front ++ cycle ∷ back → Position b n panel s cycle (length back + 1)
 unfolding AreHits
 find_hit b zero panel s front back cycle l h e = absurd (omega (arith, ap length h, ap length e, length-append front (cycle ∷ back)))

@@ -15,3 +15,5 @@ pub mod Places
 pub mod Writes
 pub mod Advancing
 pub mod Passing
+pub mod FirstHit
+pub mod Alike

@@ -1,4 +1,4 @@
--- Orders that trigger no watch do not hit a breakpoint, so only the boundary after them may.
+-- Orders that trigger no watch do not hit a condition, so only the boundary after them may.
 use Rattle.std.specs.Prelude.{◌≡◌, ℕ, zero, suc, ◌+◌, ◌<◌, ◌%◌, ◌||◌, nat_eq, [], Option, None, Some, IsTrue, Bool, true, false, not}
 use Rattle.std.proofs.Common.{refl, ap, sym, subst, ◌∙◌, arith, inl, inr}
 use Rattle.std.proofs.lemmas.Bool.{eqb-true}
@@ -16,11 +16,11 @@ use Rattle.agc_machine.specs.declared.order_run.Watch.{Watch}
 use Rattle.agc_machine.specs.declared.order_run.Watch.TheVariants as watch
 use Rattle.agc_machine.specs.declared.upcoming.Upcoming.{Upcoming}
 use Rattle.agc_panel.specs.declared.face.Face.{Face}
-use Rattle.agc_session.specs.Breakpoint.{AreHits, Meets, is_changed, is_order_at, is_service_of, panel_after, place_number, same_word, window_address, word_at}
+use Rattle.agc_session.specs.Condition.{AreHits, Meets, is_changed, is_order_at, is_service_of, panel_after, place_number, same_word, window_address, word_at}
 use Rattle.agc_session.specs.Search.{HasAdvanced, HasPassed}
 use Rattle.agc_session.specs.Session.{BeginBefore, shown_after}
-use Rattle.agc_session.specs.declared.breakpoint.Breakpoint.{Breakpoint}
-use Rattle.agc_session.specs.declared.breakpoint.Breakpoint.TheVariants as breakpoint
+use Rattle.agc_session.specs.declared.condition.Condition.{Condition}
+use Rattle.agc_session.specs.declared.condition.Condition.TheVariants as condition
 use Rattle.agc_session.proofs.Advancing.{AreMissed, AreQuiet, last_hits, last_misses, none_missed}
 use Rattle.agc_session.proofs.Places.{address_of_order}
 
@@ -42,26 +42,26 @@ pub passes_one : (watch : Watch) (cycle : ℕ) (panel shown : Face) (s same t : 
 passes_one watch cycle panel shown s same t began e now p c =
     subst (λ (x : State). HasPassed watch cycle panel shown x t began) e (passes_from watch cycle panel shown same t began now p c)
 
-pub one_hit : (b : Breakpoint) (cycle : ℕ) (panel shown : Face) (s t : State) (began : ℕ) → s.stopped ≡ None → t ≡ (boundary None s).0
+pub one_hit : (b : Condition) (cycle : ℕ) (panel shown : Face) (s t : State) (began : ℕ) → s.stopped ≡ None → t ≡ (boundary None s).0
     → shown ≡ panel_after panel s → began ≡ s.cycle → Meets b panel s → HasAdvanced b cycle panel shown s t (Some began)
 unfolding after
 one_hit b cycle panel shown s t began runs e p c meets = last_hits b cycle 0 panel shown s t began (none_missed b cycle panel s) e p runs c meets
 
-pub order_meets : (place : Location) (panel : Face) (s : State) → is_order_at place (upcoming_of s) ≡ true → Meets (breakpoint.Order place) panel s
+pub order_meets : (place : Location) (panel : Face) (s : State) → is_order_at place (upcoming_of s) ≡ true → Meets (condition.Order place) panel s
 unfolding Meets
 order_meets place panel s h = h
 
 pub service_meets : (which : Option Rupt) (panel : Face) (s : State) → is_service_of which (upcoming_of s) ≡ true
-    → Meets (breakpoint.Interrupt which) panel s
+    → Meets (condition.Interrupt which) panel s
 unfolding Meets
 service_meets which panel s h = h
 
--- Orders that trigger no watch miss a breakpoint, if something that rules out a hit stays true.
-abbrev pub RulesOut : Breakpoint → Watch → ℕ → (State → Type 0) → Type 0
+-- Orders that trigger no watch miss a condition, if something that rules out a hit stays true.
+abbrev pub RulesOut : Condition → Watch → ℕ → (State → Type 0) → Type 0
 RulesOut b watch cycle clear =
     (panel : Face) (t : State) → clear t → IsPassed watch cycle t → (Meets b panel t → ⊥) × clear (boundary None t).0
 
-all_missed : (b : Breakpoint) (watch : Watch) (cycle : ℕ) (clear : State → Type 0) → RulesOut b watch cycle clear
+all_missed : (b : Condition) (watch : Watch) (cycle : ℕ) (clear : State → Type 0) → RulesOut b watch cycle clear
     → (n : ℕ) (panel : Face) (s : State) → clear s → ArePassed watch cycle n s → AreMissed b cycle n panel s × clear (after n s)
 unfolding after AreHits ArePassed AreQuiet BeginBefore
 all_missed b watch cycle clear rules zero panel s c h = (none_missed b cycle panel s, c)
@@ -89,22 +89,22 @@ not_service : (which : Option Rupt) (s : State) → IsAtOrder s → IsTrue (is_s
 not_service which s order h =
     let both : true ≡ false = sym h ∙ ap (λ (u : Upcoming). is_service_of which u) order.comes in cc
 
-service_rules : (which : Option Rupt) (watch : Watch) (cycle : ℕ) → RulesOut (breakpoint.Interrupt which) watch cycle (λ s. Unit {0})
+service_rules : (which : Option Rupt) (watch : Watch) (cycle : ℕ) → RulesOut (condition.Interrupt which) watch cycle (λ s. Unit {0})
 unfolding Meets
 service_rules which watch cycle panel t c p = (not_service which t p.order, tt)
 
 last_service : (which : Option Rupt) (n : ℕ) (panel : Face) (s : State) → (0 < n → IsAtOrder (after n s))
-    → (IsTrue (is_service_of which (upcoming_of s)) → ⊥) → Meets (breakpoint.Interrupt which) panel (after n s) → ⊥
+    → (IsTrue (is_service_of which (upcoming_of s)) → ⊥) → Meets (condition.Interrupt which) panel (after n s) → ⊥
 unfolding Meets after
 last_service which zero panel s last none h = none h
 last_service which (suc n) panel s last none h = not_service which (after (suc n) s) (last (omega arith)) h
 
 pub no_service : (which : Option Rupt) (watch : Watch) (cycle : ℕ) (panel shown : Face) (s t : State) (began : ℕ)
     → HasPassed watch cycle panel shown s t began → is_service_of which (upcoming_of s) ≡ false
-    → HasAdvanced (breakpoint.Interrupt which) cycle panel shown s t None
+    → HasAdvanced (condition.Interrupt which) cycle panel shown s t None
 no_service which watch cycle panel shown s t began h none =
-    let way = all_missed (breakpoint.Interrupt which) watch cycle (λ s. Unit {0}) (service_rules which watch cycle) h.more panel s tt h.passed in
-    last_misses (breakpoint.Interrupt which) cycle h.more panel shown s t way.0 h.now h.panel_now
+    let way = all_missed (condition.Interrupt which) watch cycle (λ s. Unit {0}) (service_rules which watch cycle) h.more panel s tt h.passed in
+    last_misses (condition.Interrupt which) cycle h.more panel shown s t way.0 h.now h.panel_now
     (last_service which h.more panel s h.last (λ k. let both : true ≡ false = sym k ∙ none in cc))
 
 -- Z rules out the order at a place
@@ -134,21 +134,21 @@ elsewhere own window place s o w e =
     elsewhere_by z own window place s refl o w both.0 both.1
 
 order_rules : (own window : ℕ) (place : Location) (cycle : ℕ) → own ≡ place_number place → window ≡ window_address place
-    → RulesOut (breakpoint.Order place) (watch.Next own window) cycle (IsElsewhere place)
+    → RulesOut (condition.Order place) (watch.Next own window) cycle (IsElsewhere place)
 unfolding Meets
 order_rules own window place cycle o w panel t c p = (c, elsewhere own window place (boundary None t).0 o w p.unseen)
 
-elsewhere_misses : (place : Location) (panel : Face) (s : State) → IsElsewhere place s → Meets (breakpoint.Order place) panel s → ⊥
+elsewhere_misses : (place : Location) (panel : Face) (s : State) → IsElsewhere place s → Meets (condition.Order place) panel s → ⊥
 unfolding Meets
 elsewhere_misses place panel s c h = c h
 
 pub no_order : (own window : ℕ) (place : Location) (cycle : ℕ) (panel shown : Face) (s t : State) (began : ℕ) → own ≡ place_number place
     → window ≡ window_address place → HasPassed (watch.Next own window) cycle panel shown s t began → is_order_at place (upcoming_of s) ≡ false
-    → HasAdvanced (breakpoint.Order place) cycle panel shown s t None
+    → HasAdvanced (condition.Order place) cycle panel shown s t None
 no_order own window place cycle panel shown s t began o w h none =
-    let way = all_missed (breakpoint.Order place) (watch.Next own window) cycle (IsElsewhere place) (order_rules own window place cycle o w) h.more panel s
+    let way = all_missed (condition.Order place) (watch.Next own window) cycle (IsElsewhere place) (order_rules own window place cycle o w) h.more panel s
     (λ k. let both : true ≡ false = sym k ∙ none in cc) h.passed in
-    last_misses (breakpoint.Order place) cycle h.more panel shown s t way.0 h.now h.panel_now
+    last_misses (condition.Order place) cycle h.more panel shown s t way.0 h.now h.panel_now
     (elsewhere_misses place panel (after h.more s) way.1)
 
 -- a cell keeps its word
@@ -169,7 +169,7 @@ changed_by : (cell : ℕ) (word : Number) (s t : State) → HasWord cell word s
 changed_by cell word s t h = ap (λ (n : ℕ). not (nat_eq (pattern_of 15 (word_at cell t.processor.store)) n)) h
 
 cell_misses : (cell : ℕ) (word : Number) (panel : Face) (s t : State) → HasWord cell word s → t ≡ (boundary None s).0
-    → not (same_word (word_at cell t.processor.store) word) ≡ false → Meets (breakpoint.Cell cell) panel s → ⊥
+    → not (same_word (word_at cell t.processor.store) word) ≡ false → Meets (condition.Cell cell) panel s → ⊥
 unfolding Meets
 cell_misses cell word panel s t h e same meets =
     let here : not (same_word (word_at cell t.processor.store) word) ≡ is_changed cell s.processor.store (boundary None s).0.processor.store =
@@ -177,29 +177,29 @@ cell_misses cell word panel s t h e same meets =
     let both : true ≡ false = sym meets ∙ sym here ∙ same in cc
 
 cell_hits : (cell : ℕ) (word : Number) (panel : Face) (s t : State) → HasWord cell word s → t ≡ (boundary None s).0
-    → not (same_word (word_at cell t.processor.store) word) ≡ true → Meets (breakpoint.Cell cell) panel s
+    → not (same_word (word_at cell t.processor.store) word) ≡ true → Meets (condition.Cell cell) panel s
 unfolding Meets
 cell_hits cell word panel s t h e other =
     let here : not (same_word (word_at cell t.processor.store) word) ≡ is_changed cell s.processor.store (boundary None s).0.processor.store =
     changed_by cell word s t h ∙ ap (λ (x : State). is_changed cell s.processor.store x.processor.store) e in
     sym here ∙ other
 
-cell_rules : (cell : ℕ) (word : Number) (cycle : ℕ) → RulesOut (breakpoint.Cell cell) (watch.Change cell word) cycle (HasWord cell word)
+cell_rules : (cell : ℕ) (word : Number) (cycle : ℕ) → RulesOut (condition.Cell cell) (watch.Change cell word) cycle (HasWord cell word)
 cell_rules cell word cycle panel t c p =
     (cell_misses cell word panel t (boundary None t).0 c refl p.unseen, keeps_word cell word (boundary None t).0 p.unseen)
 
 pub no_change : (cell : ℕ) (word : Number) (cycle : ℕ) (panel shown : Face) (s t : State) (began : ℕ)
     → HasPassed (watch.Change cell word) cycle panel shown s t began → HasWord cell word s
-    → not (same_word (word_at cell t.processor.store) word) ≡ false → HasAdvanced (breakpoint.Cell cell) cycle panel shown s t None
+    → not (same_word (word_at cell t.processor.store) word) ≡ false → HasAdvanced (condition.Cell cell) cycle panel shown s t None
 no_change cell word cycle panel shown s t began h w same =
-    let way = all_missed (breakpoint.Cell cell) (watch.Change cell word) cycle (HasWord cell word) (cell_rules cell word cycle) h.more panel s w h.passed in
-    last_misses (breakpoint.Cell cell) cycle h.more panel shown s t way.0 h.now h.panel_now
+    let way = all_missed (condition.Cell cell) (watch.Change cell word) cycle (HasWord cell word) (cell_rules cell word cycle) h.more panel s w h.passed in
+    last_misses (condition.Cell cell) cycle h.more panel shown s t way.0 h.now h.panel_now
     (cell_misses cell word panel (after h.more s) t way.1 h.now same)
 
 pub last_changes : (cell : ℕ) (word : Number) (cycle : ℕ) (panel shown : Face) (s t : State) (began : ℕ)
     → HasPassed (watch.Change cell word) cycle panel shown s t began → s.stopped ≡ None → HasWord cell word s
-    → not (same_word (word_at cell t.processor.store) word) ≡ true → HasAdvanced (breakpoint.Cell cell) cycle panel shown s t (Some began)
+    → not (same_word (word_at cell t.processor.store) word) ≡ true → HasAdvanced (condition.Cell cell) cycle panel shown s t (Some began)
 last_changes cell word cycle panel shown s t began h runs w other =
-    let way = all_missed (breakpoint.Cell cell) (watch.Change cell word) cycle (HasWord cell word) (cell_rules cell word cycle) h.more panel s w h.passed in
-    last_hits (breakpoint.Cell cell) cycle h.more panel shown s t began way.0 h.now h.panel_now (runs_last h.more s runs h.last) h.begins
+    let way = all_missed (condition.Cell cell) (watch.Change cell word) cycle (HasWord cell word) (cell_rules cell word cycle) h.more panel s w h.passed in
+    last_hits (condition.Cell cell) cycle h.more panel shown s t began way.0 h.now h.panel_now (runs_last h.more s runs h.last) h.begins
     (cell_hits cell word panel (after h.more s) t way.1 h.now other)

@@ -14,7 +14,7 @@ use Rattle.agc_machine.specs.declared.upcoming.InHand.{InHand}
 use Rattle.agc_machine.specs.declared.upcoming.Upcoming.{Upcoming}
 use Rattle.agc_machine.specs.declared.upcoming.Upcoming.TheVariants as upcoming
 use Rattle.agc_machine.proofs.Cases.{upcoming_applies, upcoming_comes}
-use Rattle.agc_session.specs.Breakpoint.{is_order_at, place_number, same_location, window_address}
+use Rattle.agc_session.specs.Condition.{is_order_at, place_number, same_location, window_address}
 
 -- the order that comes is the one in hand
 order_by : (stopped : Option Stop) (s : State) (order : InHand) → s.stopped ≡ stopped → upcoming_of s ≡ upcoming.Order order → order ≡ in_hand s.processor

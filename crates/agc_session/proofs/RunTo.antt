@@ -1,4 +1,4 @@
--- A run forward to a breakpoint.
+-- A run forward to a condition.
 use Rattle.std.specs.Prelude.{◌≡◌, ◌⊎◌, ℕ, zero, suc, ◌+◌, ◌<◌, ◌≤◌, Bool, true, false, Option, None, IsSome, IsTrue, not, ◌↔◌}
 use Rattle.std.proofs.Common.{refl, ap, sym, subst, ◌∙◌, arith, inl, inr}
 use Rattle.agc_word.specs.Number.{Number}
@@ -8,14 +8,16 @@ use Rattle.agc_machine.specs.Laws.{after}
 use Rattle.agc_machine.specs.State.{State}
 use Rattle.agc_machine.specs.declared.answer.Stepped.{Stepped}
 use Rattle.agc_panel.specs.declared.face.Face.{Face}
-use Rattle.agc_session.specs.Breakpoint.{Ends, HasRunTo, Meets, NoneEnds, is_changed, is_service_of, panel_after, panel_later, same_word, word_at}
+use Rattle.agc_panel.specs.declared.panel_line.PanelLine.{PanelLine}
+use Rattle.agc_session.specs.Condition.{Ends, HasRunTo, Meets, NoneEnds, is_changed, is_service_of, panel_after, panel_later, same_word, word_at}
+use Rattle.agc_session.specs.Search.{IsOnWrite}
 use Rattle.agc_session.specs.Session.{BeginBefore, HasGone, SessionState, shown_after}
-use Rattle.agc_session.specs.declared.breakpoint.Breakpoint.{Breakpoint}
-use Rattle.agc_session.specs.declared.breakpoint.Breakpoint.TheVariants as breakpoint
+use Rattle.agc_session.specs.declared.condition.Condition.{Condition}
+use Rattle.agc_session.specs.declared.condition.Condition.TheVariants as condition
 use Rattle.agc_session.proofs.Boundaries.{after_next, panel_next}
 
 -- The boundaries so far: none of them ends the run.
-pub record RunsTo (b : Breakpoint) (cycle : ℕ) (s t : SessionState) : Type 0 where
+pub record RunsTo (b : Condition) (cycle : ℕ) (s t : SessionState) : Type 0 where
   pub boundaries : ℕ
   pub now : after boundaries s.now ≡ t.now
   pub panel : panel_later boundaries s.panel s.now ≡ t.panel
@@ -26,7 +28,7 @@ pub record RunsTo (b : Breakpoint) (cycle : ℕ) (s t : SessionState) : Type 0 w
   pub script : t.script ≡ s.script
   pub injected : t.injected ≡ s.injected
 
-pub runs_from : (b : Breakpoint) (cycle : ℕ) (s : SessionState) → RunsTo b cycle s s
+pub runs_from : (b : Condition) (cycle : ℕ) (s : SessionState) → RunsTo b cycle s s
 unfolding after panel_later BeginBefore NoneEnds
 runs_from b cycle s = record { boundaries = 0; now = refl; panel = refl; before = tt; none = tt; base = refl; retained = refl; script = refl; injected = refl }
 
@@ -35,7 +37,7 @@ unfolding after BeginBefore
 one_before zero cycle s h l = (l, tt)
 one_before (suc n) cycle s h l = (h.0, one_before n cycle (boundary None s).0 h.1 l)
 
-one_no_end : (b : Breakpoint) (n : ℕ) (panel : Face) (s : State) → NoneEnds b n panel s → (Ends b (panel_later n panel s) (after n s) → ⊥)
+one_no_end : (b : Condition) (n : ℕ) (panel : Face) (s : State) → NoneEnds b n panel s → (Ends b (panel_later n panel s) (after n s) → ⊥)
     → NoneEnds b (suc n) panel s
 unfolding after panel_later NoneEnds
 one_no_end b zero panel s h nope = (nope, tt)
@@ -61,16 +63,16 @@ pub gone_panel : (s t : SessionState) (answer : Stepped) → HasGone s (boundary
 gone_panel s t answer h = h.panel ∙ ap (λ (r : State × Stepped). shown_after r.1 s.panel) h.now
 
 -- the ends of the run at the present state, in the terms of its start
-ends_here : (b : Breakpoint) (n : ℕ) (panel shown : Face) (s t : State) → panel_later n panel s ≡ shown → after n s ≡ t → Ends b shown t
+ends_here : (b : Condition) (n : ℕ) (panel shown : Face) (s t : State) → panel_later n panel s ≡ shown → after n s ≡ t → Ends b shown t
     → Ends b (panel_later n panel s) (after n s)
 ends_here b n panel shown s t e f h = subst (λ (p : Face). Ends b p (after n s)) (sym e) (subst (λ (x : State). Ends b shown x) (sym f) h)
 
-ends_there : (b : Breakpoint) (n : ℕ) (panel shown : Face) (s t : State) → panel_later n panel s ≡ shown → after n s ≡ t
+ends_there : (b : Condition) (n : ℕ) (panel shown : Face) (s t : State) → panel_later n panel s ≡ shown → after n s ≡ t
     → Ends b (panel_later n panel s) (after n s) → Ends b shown t
 ends_there b n panel shown s t e f h = subst (λ (x : State). Ends b shown x) f (subst (λ (p : Face). Ends b p (after n s)) e h)
 
 -- one more boundary
-pub runs_on : (b : Breakpoint) (cycle : ℕ) (s t u : SessionState) (answer : Stepped) → RunsTo b cycle s t → t.now.cycle < cycle
+pub runs_on : (b : Condition) (cycle : ℕ) (s t u : SessionState) (answer : Stepped) → RunsTo b cycle s t → t.now.cycle < cycle
     → HasGone t (boundary None t.now) answer u → (Ends b t.panel t.now → ⊥) → RunsTo b cycle s u
 runs_on b cycle s t u answer h l gone nope = record {
   boundaries = suc h.boundaries;
@@ -85,7 +87,7 @@ runs_on b cycle s t u answer h l gone nope = record {
   injected = gone.injected ∙ h.injected;
 }
 
-pub run_hits : (b : Breakpoint) (cycle : ℕ) (s t u : SessionState) (answer : Stepped) → RunsTo b cycle s t → t.now.cycle < cycle → t.now.stopped ≡ None
+pub run_hits : (b : Condition) (cycle : ℕ) (s t u : SessionState) (answer : Stepped) → RunsTo b cycle s t → t.now.cycle < cycle → t.now.stopped ≡ None
     → HasGone t (boundary None t.now) answer u → Ends b t.panel t.now → HasRunTo b cycle s u true
 run_hits b cycle s t u answer h l runs gone ends = record {
   boundaries = suc h.boundaries;
@@ -106,7 +108,7 @@ run_hits b cycle s t u answer h l runs gone ends = record {
   injected = gone.injected ∙ h.injected;
 }
 
-pub run_misses : (b : Breakpoint) (cycle : ℕ) (s t : SessionState) → RunsTo b cycle s t → (cycle ≤ t.now.cycle) ⊎ IsSome t.now.stopped
+pub run_misses : (b : Condition) (cycle : ℕ) (s t : SessionState) → RunsTo b cycle s t → (cycle ≤ t.now.cycle) ⊎ IsSome t.now.stopped
     → HasRunTo b cycle s t false
 run_misses b cycle s t h there = record {
   boundaries = h.boundaries;
@@ -125,13 +127,13 @@ run_misses b cycle s t h there = record {
 iff_same : (a b : Bool) → a ≡ b → IsTrue a ↔ IsTrue b
 iff_same a b e = (λ h. subst (λ (x : Bool). IsTrue x) e h, λ h. subst (λ (x : Bool). IsTrue x) (sym e) h)
 
-pub ends_boundary : (s : SessionState) → IsTrue true ↔ Ends breakpoint.Boundary s.panel s.now
+pub ends_boundary : (s : SessionState) → IsTrue true ↔ Ends condition.Boundary s.panel s.now
 unfolding Meets
 ends_boundary s = (λ h. tt, λ h. refl)
 
 pub ends_cell : (cell : ℕ) (s t : SessionState) (answer : Stepped) (before : Number) (result : Bool) → HasGone s (boundary None s.now) answer t
     → before ≡ word_at cell s.now.processor.store → result ≡ not (same_word (word_at cell t.now.processor.store) before)
-    → IsTrue result ↔ Ends (breakpoint.Cell cell) s.panel s.now
+    → IsTrue result ↔ Ends (condition.Cell cell) s.panel s.now
 unfolding Meets
 ends_cell cell s t answer before result gone e f =
     iff_same result (is_changed cell s.now.processor.store (boundary None s.now).0.processor.store)
@@ -139,23 +141,31 @@ ends_cell cell s t answer before result gone e f =
     ∙ ap (λ (x : State). not (same_word (word_at cell x.processor.store) (word_at cell s.now.processor.store))) (gone_now s t answer gone))
 
 pub ends_interrupt : (which : Option Rupt) (s : SessionState) (result : Bool) → result ≡ is_service_of which (upcoming_of s.now)
-    → IsTrue result ↔ Ends (breakpoint.Interrupt which) s.panel s.now
+    → IsTrue result ↔ Ends (condition.Interrupt which) s.panel s.now
 unfolding Meets
 ends_interrupt which s result e = iff_same result (is_service_of which (upcoming_of s.now)) e
 
-meets_ends : (b : Breakpoint) (panel : Face) (s : State) (result : Bool)
-    → ((channel : Option ℕ) × (word : Option Number) × (b ≡ breakpoint.Write channel word)) ⊎ (b ≡ breakpoint.Panel)
-    → IsTrue result ↔ Meets b panel s → IsTrue result ↔ Ends b panel s
-meets_ends b panel s result (inl (channel, word, is)) h =
-    subst (λ (a : Breakpoint). IsTrue result ↔ Ends a panel s) (sym is) (subst (λ (a : Breakpoint). IsTrue result ↔ Meets a panel s) is h)
-meets_ends b panel s result (inr is) h =
-    subst (λ (a : Breakpoint). IsTrue result ↔ Ends a panel s) (sym is) (subst (λ (a : Breakpoint). IsTrue result ↔ Meets a panel s) is h)
+on_write : (b : Condition)
+    → ((channel : Option ℕ) × (word : Option Number) × (b ≡ condition.Write channel word)) ⊎ (b ≡ condition.Panel) ⊎ ((line : PanelLine) × (b ≡ condition.Shows line))
+    → IsOnWrite b
+on_write b (inl (channel, word, is)) = subst IsOnWrite (sym is) refl
+on_write b (inr (inl is)) = subst IsOnWrite (sym is) refl
+on_write b (inr (inr (line, is))) = subst IsOnWrite (sym is) refl
 
-pub ends_on_write : (b : Breakpoint) (s t : SessionState) (answer : Stepped) (before : Face) (result : Bool)
-    → ((channel : Option ℕ) × (word : Option Number) × (b ≡ breakpoint.Write channel word)) ⊎ (b ≡ breakpoint.Panel)
+meets_ends : (b : Condition) (panel : Face) (s : State) (result : Bool) → IsOnWrite b → IsTrue result ↔ Meets b panel s → IsTrue result ↔ Ends b panel s
+meets_ends (condition.Order place) panel s result on h = cc
+meets_ends condition.Boundary panel s result on h = h
+meets_ends (condition.Cell cell) panel s result on h = h
+meets_ends (condition.Write channel word) panel s result on h = h
+meets_ends (condition.Interrupt which) panel s result on h = h
+meets_ends condition.Panel panel s result on h = h
+meets_ends (condition.Shows line) panel s result on h = h
+
+pub ends_on_write : (b : Condition) (s t : SessionState) (answer : Stepped) (before : Face) (result : Bool)
+    → ((channel : Option ℕ) × (word : Option Number) × (b ≡ condition.Write channel word)) ⊎ (b ≡ condition.Panel) ⊎ ((line : PanelLine) × (b ≡ condition.Shows line))
     → HasGone s (boundary None s.now) answer t → before ≡ s.panel
     → ((u : State) → (boundary None u).1 ≡ answer → IsTrue result ↔ Meets b before u) → IsTrue result ↔ Ends b s.panel s.now
 ends_on_write b s t answer before result on gone e test =
     let tested : IsTrue result ↔ Meets b s.panel s.now =
     subst (λ (p : Face). IsTrue result ↔ Meets b p s.now) e (test s.now (sym (ap (λ (r : State × Stepped). r.1) gone.now))) in
-    meets_ends b s.panel s.now result on tested
+    meets_ends b s.panel s.now result (on_write b on) tested

@@ -1,4 +1,4 @@
--- Quiet boundaries hit no breakpoint on a write, so the run can go to the next write at once.
+-- Quiet boundaries hit no condition on a write, so the run can go to the next write at once.
 use Rattle.std.specs.Prelude.{◌≡◌, ℕ, zero, suc, ◌<◌, ◌≤◌, [], Option, None, Some, IsTrue, Bool, true, false, ◌↔◌}
 use Rattle.std.proofs.Common.{refl, ap, sym, subst, ◌∙◌, arith, inl, inr}
 use Rattle.std.proofs.lemmas.Bool.Decides.{leb_tells}
@@ -12,11 +12,11 @@ use Rattle.agc_machine.specs.declared.answer.Stepped.TheVariants as stepped
 use Rattle.agc_machine.specs.declared.answer.Stop.{Stop}
 use Rattle.agc_machine.proofs.Chain.{boundary_falls, some_left, stopped_stays}
 use Rattle.agc_panel.specs.declared.face.Face.{Face}
-use Rattle.agc_session.specs.Breakpoint.{AreHits, Hits, Meets, panel_after}
+use Rattle.agc_session.specs.Condition.{AreHits, Hits, Meets, panel_after}
 use Rattle.agc_session.specs.Search.{HasAdvanced, IsOnWrite}
 use Rattle.agc_session.specs.Session.{BeginBefore, shown_after}
-use Rattle.agc_session.specs.declared.breakpoint.Breakpoint.{Breakpoint}
-use Rattle.agc_session.specs.declared.breakpoint.Breakpoint.TheVariants as breakpoint
+use Rattle.agc_session.specs.declared.condition.Condition.{Condition}
+use Rattle.agc_session.specs.declared.condition.Condition.TheVariants as condition
 use Rattle.agc_session.proofs.Advancing.{AreMissed, AreQuiet, last_hits, last_misses}
 
 -- Some quiet boundaries and the one that ends the run to the next write.
@@ -66,32 +66,34 @@ to_write cycle s t answer e =
     subst (λ (r : State × Stepped). ToWrite cycle s r.0 r.1) (sym e) (within (boundaries_left s) cycle s (omega arith))
 
 -- a quiet boundary does not hit
-no_quiet_hit : (b : Breakpoint) (panel : Face) (s : State) → IsOnWrite b → (boundary None s).1 ≡ stepped.Quiet → Meets b panel s → ⊥
+no_quiet_hit : (b : Condition) (panel : Face) (s : State) → IsOnWrite b → (boundary None s).1 ≡ stepped.Quiet → Meets b panel s → ⊥
 unfolding Meets
-no_quiet_hit (breakpoint.Write channel word) panel s on e h = let quiet : false ≡ true = rw e at h in cc
-no_quiet_hit breakpoint.Panel panel s on e h = let quiet : false ≡ true = rw e at h in cc
-no_quiet_hit breakpoint.Boundary panel s on e h = on
-no_quiet_hit (breakpoint.Order place) panel s on e h = on
-no_quiet_hit (breakpoint.Cell cell) panel s on e h = on
-no_quiet_hit (breakpoint.Interrupt which) panel s on e h = on
+no_quiet_hit (condition.Write channel word) panel s on e h = let quiet : false ≡ true = rw e at h in cc
+no_quiet_hit condition.Panel panel s on e h = let quiet : false ≡ true = rw e at h in cc
+no_quiet_hit (condition.Shows line) panel s on e h = let quiet : false ≡ true = rw e at h in cc
+no_quiet_hit condition.Boundary panel s on e h = cc
+no_quiet_hit (condition.Order place) panel s on e h = cc
+no_quiet_hit (condition.Cell cell) panel s on e h = cc
+no_quiet_hit (condition.Interrupt which) panel s on e h = cc
 
-no_stop_hit : (b : Breakpoint) (panel : Face) (s : State) (why : Stop) → IsOnWrite b → (boundary None s).1 ≡ stepped.Stopped why → Meets b panel s → ⊥
+no_stop_hit : (b : Condition) (panel : Face) (s : State) (why : Stop) → IsOnWrite b → (boundary None s).1 ≡ stepped.Stopped why → Meets b panel s → ⊥
 unfolding Meets
-no_stop_hit (breakpoint.Write channel word) panel s why on e h = let none : false ≡ true = rw e at h in cc
-no_stop_hit breakpoint.Panel panel s why on e h = let none : false ≡ true = rw e at h in cc
-no_stop_hit breakpoint.Boundary panel s why on e h = on
-no_stop_hit (breakpoint.Order place) panel s why on e h = on
-no_stop_hit (breakpoint.Cell cell) panel s why on e h = on
-no_stop_hit (breakpoint.Interrupt which) panel s why on e h = on
+no_stop_hit (condition.Write channel word) panel s why on e h = let none : false ≡ true = rw e at h in cc
+no_stop_hit condition.Panel panel s why on e h = let none : false ≡ true = rw e at h in cc
+no_stop_hit (condition.Shows line) panel s why on e h = let none : false ≡ true = rw e at h in cc
+no_stop_hit condition.Boundary panel s why on e h = cc
+no_stop_hit (condition.Order place) panel s why on e h = cc
+no_stop_hit (condition.Cell cell) panel s why on e h = cc
+no_stop_hit (condition.Interrupt which) panel s why on e h = cc
 
-no_hits : (b : Breakpoint) (n : ℕ) (panel : Face) (s : State) → IsOnWrite b → AreQuiet n s → AreHits b n panel s []
+no_hits : (b : Condition) (n : ℕ) (panel : Face) (s : State) → IsOnWrite b → AreQuiet n s → AreHits b n panel s []
 unfolding AreHits AreQuiet
 no_hits b zero panel s on h = refl
 no_hits b (suc n) panel s on h =
     let none : Hits b panel s → ⊥ = λ hit. no_quiet_hit b panel s on h.0 hit.meets in
     ([], [], inr (none, refl), no_hits b n (panel_after panel s) (boundary None s).0 on h.1, refl)
 
-missed : (b : Breakpoint) (cycle : ℕ) (panel : Face) (s t : State) (answer : Stepped) → IsOnWrite b → (w : ToWrite cycle s t answer)
+missed : (b : Condition) (cycle : ℕ) (panel : Face) (s t : State) (answer : Stepped) → IsOnWrite b → (w : ToWrite cycle s t answer)
     → AreMissed b cycle w.more panel s
 missed b cycle panel s t answer on w = record { quiet = w.quiet; before = w.before; none = no_hits b w.more panel s on w.quiet }
 
@@ -111,7 +113,7 @@ ran_by (Some why) s t write e h =
 cycle_of_write : (s t : State) (write : ChannelWrite) → boundary None s ≡ (t, stepped.Wrote write) → write.cycle ≡ s.cycle
 cycle_of_write s t write e = (subst (λ (r : State × Stepped). Falls s r) e (boundary_falls s)).1
 
-write_hits : (b : Breakpoint) (cycle : ℕ) (panel shown : Face) (s t : State) (write : ChannelWrite) → IsOnWrite b
+write_hits : (b : Condition) (cycle : ℕ) (panel shown : Face) (s t : State) (write : ChannelWrite) → IsOnWrite b
     → (w : ToWrite cycle s t (stepped.Wrote write)) → shown ≡ shown_after (stepped.Wrote write) panel → Meets b panel (after w.more s)
     → HasAdvanced b cycle panel shown s t (Some write.cycle)
 write_hits b cycle panel shown s t write on w e meets =
@@ -119,30 +121,30 @@ write_hits b cycle panel shown s t write on w e meets =
     last_hits b cycle w.more panel shown s t write.cycle (missed b cycle panel s t (stepped.Wrote write) on w) (state_last cycle s t (stepped.Wrote write) w)
     (panel_last cycle panel shown s t (stepped.Wrote write) w e) (ran_by u.stopped u t write refl w.last) (cycle_of_write u t write w.last) meets
 
-write_misses : (b : Breakpoint) (cycle : ℕ) (panel shown : Face) (s t : State) (answer : Stepped) → IsOnWrite b → (w : ToWrite cycle s t answer)
+write_misses : (b : Condition) (cycle : ℕ) (panel shown : Face) (s t : State) (answer : Stepped) → IsOnWrite b → (w : ToWrite cycle s t answer)
     → shown ≡ shown_after answer panel → (Meets b panel (after w.more s) → ⊥) → HasAdvanced b cycle panel shown s t None
 write_misses b cycle panel shown s t answer on w e miss =
     last_misses b cycle w.more panel shown s t (missed b cycle panel s t answer on w) (state_last cycle s t answer w) (panel_last cycle panel shown s t answer w e) miss
 
-quiet_misses : (b : Breakpoint) (cycle : ℕ) (panel shown : Face) (s t : State) → IsOnWrite b → ToWrite cycle s t stepped.Quiet → shown ≡ panel
+quiet_misses : (b : Condition) (cycle : ℕ) (panel shown : Face) (s t : State) → IsOnWrite b → ToWrite cycle s t stepped.Quiet → shown ≡ panel
     → HasAdvanced b cycle panel shown s t None
 quiet_misses b cycle panel shown s t on w e =
     write_misses b cycle panel shown s t stepped.Quiet on w e (no_quiet_hit b panel (after w.more s) on (ap (λ (r : State × Stepped). r.1) w.last))
 
-stop_misses : (b : Breakpoint) (cycle : ℕ) (panel shown : Face) (s t : State) (why : Stop) → IsOnWrite b → ToWrite cycle s t (stepped.Stopped why)
+stop_misses : (b : Condition) (cycle : ℕ) (panel shown : Face) (s t : State) (why : Stop) → IsOnWrite b → ToWrite cycle s t (stepped.Stopped why)
     → shown ≡ panel → HasAdvanced b cycle panel shown s t None
 stop_misses b cycle panel shown s t why on w e =
     write_misses b cycle panel shown s t (stepped.Stopped why) on w e (no_stop_hit b panel (after w.more s) why on (ap (λ (r : State × Stepped). r.1) w.last))
 
 -- what a test of the write says of the boundary
-abbrev pub Tests : Breakpoint → Face → Stepped → Bool → Type 0
+abbrev pub Tests : Condition → Face → Stepped → Bool → Type 0
 Tests b panel answer result = (s : State) → (boundary None s).1 ≡ answer → IsTrue result ↔ Meets b panel s
 
-tested : (b : Breakpoint) (cycle : ℕ) (panel shown : Face) (s t : State) (answer : Stepped) (result : Bool) (w : ToWrite cycle s t answer)
+tested : (b : Condition) (cycle : ℕ) (panel shown : Face) (s t : State) (answer : Stepped) (result : Bool) (w : ToWrite cycle s t answer)
     → Tests b panel answer result → IsTrue result ↔ Meets b panel (after w.more s)
 tested b cycle panel shown s t answer result w test = test (after w.more s) (ap (λ (r : State × Stepped). r.1) w.last)
 
-pub hit_of_write : (b : Breakpoint) (cycle : ℕ) (panel shown : Face) (s t : State) (answer : Stepped) (write : ChannelWrite) → answer ≡ stepped.Wrote write
+pub hit_of_write : (b : Condition) (cycle : ℕ) (panel shown : Face) (s t : State) (answer : Stepped) (write : ChannelWrite) → answer ≡ stepped.Wrote write
     → IsOnWrite b → (t, answer) ≡ next_before cycle s → shown ≡ shown_after (stepped.Wrote write) panel → Tests b panel answer true
     → HasAdvanced b cycle panel shown s t (Some write.cycle)
 hit_of_write b cycle panel shown s t answer write is on next e test =
@@ -150,7 +152,7 @@ hit_of_write b cycle panel shown s t answer write is on next e test =
     let known : Tests b panel (stepped.Wrote write) true = subst (λ (a : Stepped). Tests b panel a true) is test in
     write_hits b cycle panel shown s t write on w e ((tested b cycle panel shown s t (stepped.Wrote write) true w known).0 refl)
 
-pub miss_of_write : (b : Breakpoint) (cycle : ℕ) (panel shown : Face) (s t : State) (answer : Stepped) (write : ChannelWrite) → answer ≡ stepped.Wrote write
+pub miss_of_write : (b : Condition) (cycle : ℕ) (panel shown : Face) (s t : State) (answer : Stepped) (write : ChannelWrite) → answer ≡ stepped.Wrote write
     → IsOnWrite b → (t, answer) ≡ next_before cycle s → shown ≡ shown_after (stepped.Wrote write) panel → Tests b panel answer false
     → HasAdvanced b cycle panel shown s t None
 miss_of_write b cycle panel shown s t answer write is on next e test =
@@ -159,7 +161,7 @@ miss_of_write b cycle panel shown s t answer write is on next e test =
     write_misses b cycle panel shown s t (stepped.Wrote write) on w e
     (λ meets. let both : false ≡ true = (tested b cycle panel shown s t (stepped.Wrote write) false w known).1 meets in cc)
 
-pub miss_otherwise : (b : Breakpoint) (cycle : ℕ) (panel : Face) (s t : State) (answer : Stepped) → IsOnWrite b → (t, answer) ≡ next_before cycle s
+pub miss_otherwise : (b : Condition) (cycle : ℕ) (panel : Face) (s t : State) (answer : Stepped) → IsOnWrite b → (t, answer) ≡ next_before cycle s
     → ((write : ChannelWrite) → answer ≡ stepped.Wrote write → ⊥) → HasAdvanced b cycle panel panel s t None
 miss_otherwise b cycle panel s t stepped.Quiet on next none = quiet_misses b cycle panel panel s t on (to_write cycle s t stepped.Quiet next) refl
 miss_otherwise b cycle panel s t (stepped.Stopped why) on next none =

@@ -1,14 +1,17 @@
--- A merge of two scripts that is written event by event.
-use Rattle.std.specs.Prelude.{◌≡◌, ℕ, ◌+◌, ◌<◌, ◌≤◌, List, [], ◌∷◌, ◌++◌, length, take, drop, Option, Result, Ok, Err, OnOk}
-use Rattle.std.specs.List.{flat_map}
+-- A merge of two scripts that is written event by event, and the part of a script from a cycle on.
+use Rattle.std.specs.Prelude.{◌≡◌, ℕ, ◌+◌, ◌<◌, ◌≤◌, nat_le, List, [], ◌∷◌, ◌++◌, length, take, drop, position, unwrap_or, Option, Result, Ok, Err, OnOk}
+use Rattle.std.specs.List.{flat_map, position_or_len}
 use Rattle.std.specs.Io.KnownBytes.{Appends}
-use Rattle.std.proofs.Common.{refl, sym, ap, subst, ◌∙◌, append-nil, append_assoc, get_or}
+use Rattle.std.proofs.Common.{refl, sym, ap, subst, ◌∙◌, append-nil, append_assoc, arith, get_or}
 use Rattle.std.proofs.KnownBytes.{Appends-trans}
+use Rattle.std.proofs.lemmas.Bool.Decides.{nat_tests}
 use Rattle.std.proofs.lemmas.List.Concat.{flat_map-append}
+use Rattle.std.proofs.lemmas.List.Sums.{prefix_len-le-length}
 use Rattle.agc_script.specs.Merge.{due_at, joined}
 use Rattle.agc_script.specs.Written.{event_text}
 use Rattle.agc_script.specs.declared.event.Event.{Event}
 use Rattle.agc_script.proofs.Merges.{joined-end, joined-next}
+use Rattle.agc_session.specs.Session.{since}
 
 -- some events are written, and those that are left complete a list
 abbrev pub IsWritten : Option (List ℕ) → Option (List ℕ) → List Event → List Event → Type 0
@@ -48,3 +51,14 @@ rest_written old now new rest given all i l h k =
     subst (λ (events : List Event). Appends old new (flat_map event_text events)) whole
     (subst (λ (text : List ℕ). Appends old new text) (sym (flat_map-append event_text h.0 rest))
     (Appends-trans old now new (flat_map event_text h.0) (flat_map event_text rest) h.1 k))
+
+-- the place of the first event at a cycle or later, as the search for it gives it
+place_found : (cycle : ℕ) (events : List Event)
+    → unwrap_or (position (λ event. nat_le cycle event.cycle) events) (length events) ≡ position_or_len (λ event. nat_le cycle event.cycle) events
+place_found cycle events =
+    let bound : position_or_len (λ (event : Event). nat_le cycle event.cycle) events ≤ length events = prefix_len-le-length _ events in
+    grind (arith, nat_tests)
+
+pub since_found : (cycle : ℕ) (events : List Event)
+    → drop (unwrap_or (position (λ event. nat_le cycle event.cycle) events) (length events)) events ≡ since cycle events
+since_found cycle events = ap (λ (n : ℕ). drop n events) (place_found cycle events)

@@ -1,5 +1,5 @@
 pub mod Session
 pub mod Checkpoints
 pub mod Arguments
-pub mod Breakpoint
+pub mod Condition
 pub mod Search

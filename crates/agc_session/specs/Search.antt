@@ -1,5 +1,5 @@
 -- The search back from now, stretch by stretch: the newest one first.
-use Rattle.std.specs.Prelude.{◌≡◌, ◌⊎◌, ℕ, suc, ◌+◌, ◌<◌, ◌≤◌, List, [], ◌∷◌, ◌++◌, length, drop, Option, None, Some, is_some, if◌then◌else◌}
+use Rattle.std.specs.Prelude.{◌≡◌, ◌⊎◌, ℕ, suc, ◌+◌, ◌<◌, ◌≤◌, List, [], ◌∷◌, ◌++◌, length, drop, Option, None, Some, is_some, IsTrue, if◌then◌else◌}
 use Rattle.agc_script.specs.declared.event.Event.{Event}
 use Rattle.agc_machine.specs.Boundary.{boundary}
 use Rattle.agc_machine.specs.Laws.{after}
@@ -8,10 +8,9 @@ use Rattle.agc_machine.specs.Run.{boundaries_left}
 use Rattle.agc_machine.specs.State.{State}
 use Rattle.agc_machine.specs.declared.order_run.Watch.{Watch}
 use Rattle.agc_panel.specs.declared.face.Face.{Face}
-use Rattle.agc_session.specs.Breakpoint.{AreHits, panel_after, panel_at, panel_later}
+use Rattle.agc_session.specs.Condition.{AreHits, is_on_write, panel_after, panel_at, panel_later}
 use Rattle.agc_session.specs.Session.{BeginBefore}
-use Rattle.agc_session.specs.declared.breakpoint.Breakpoint.{Breakpoint}
-use Rattle.agc_session.specs.declared.breakpoint.Breakpoint.TheVariants as breakpoint
+use Rattle.agc_session.specs.declared.condition.Condition.{Condition}
 use Rattle.agc_session.specs.declared.checkpoint.Checkpoint.{Checkpoint}
 use Rattle.agc_session.specs.declared.search.Counted.{Counted}
 use Rattle.agc_session.specs.declared.search.Found.{Found}
@@ -38,35 +37,30 @@ pub record IsCountOf (cycles : List ℕ) (hits : Counted) : Type 0 where
   pub last : 0 < length cycles → (front : List ℕ) × (cycles ≡ front ++ hits.last ∷ [])
 
 -- Of this many boundaries from a state on, some lead to another state, and their hits are counted.
-pub record IsCounting (breakpoint : Breakpoint) (n : ℕ) (panel shown : Face) (s t : State) (counted : Counted) : Type 0 where
+pub record IsCounting (condition : Condition) (n : ℕ) (panel shown : Face) (s t : State) (counted : Counted) : Type 0 where
   pub boundaries : ℕ
   pub left : ℕ
   pub parts : boundaries + left ≡ n
   pub now : after boundaries s ≡ t
   pub panel_now : panel_later boundaries panel s ≡ shown
   pub cycles : List ℕ
-  pub hits : AreHits breakpoint boundaries panel s cycles
+  pub hits : AreHits condition boundaries panel s cycles
   pub count : IsCountOf cycles counted
 
 -- Of this many boundaries from a state on, the hits are counted: all, or those up to one with this number.
-pub record HasCounted (breakpoint : Breakpoint) (n most : ℕ) (panel : Face) (s : State) (counted : Counted) : Type 0 where
+pub record HasCounted (condition : Condition) (n most : ℕ) (panel : Face) (s : State) (counted : Counted) : Type 0 where
   pub boundaries : ℕ
   pub left : ℕ
   pub parts : boundaries + left ≡ n
   pub cycles : List ℕ
-  pub hits : AreHits breakpoint boundaries panel s cycles
+  pub hits : AreHits condition boundaries panel s cycles
   pub count : IsCountOf cycles counted
   pub few : counted.number ≤ most
-  pub done : (counted.number ≡ most) ⊎ AreHits breakpoint left (panel_later boundaries panel s) (after boundaries s) []
+  pub done : (counted.number ≡ most) ⊎ AreHits condition left (panel_later boundaries panel s) (after boundaries s) []
 
--- a breakpoint that only a channel write can hit
-abbrev pub IsOnWrite : Breakpoint → Type 0
-IsOnWrite (breakpoint.Write channel word) = Unit {0}
-IsOnWrite breakpoint.Panel = Unit {0}
-IsOnWrite breakpoint.Boundary = ⊥
-IsOnWrite (breakpoint.Order place) = ⊥
-IsOnWrite (breakpoint.Cell cell) = ⊥
-IsOnWrite (breakpoint.Interrupt which) = ⊥
+-- a condition that only a channel write can hit
+abbrev pub IsOnWrite : Condition → Type 0
+IsOnWrite what = IsTrue (is_on_write what)
 
 -- the cycle of one hit, if there is one
 abbrev pub cycles_of : Option ℕ → List ℕ
@@ -74,12 +68,12 @@ cycles_of (Some cycle) = cycle ∷ []
 cycles_of None = []
 
 -- At least one boundary was taken. Those after the first begin before a cycle, and only the last may hit.
-pub record HasAdvanced (breakpoint : Breakpoint) (cycle : ℕ) (panel shown : Face) (s t : State) (hit : Option ℕ) : Type 0 where
+pub record HasAdvanced (condition : Condition) (cycle : ℕ) (panel shown : Face) (s t : State) (hit : Option ℕ) : Type 0 where
   pub more : ℕ
   pub now : after (suc more) s ≡ t
   pub panel_now : panel_later (suc more) panel s ≡ shown
   pub before : BeginBefore more cycle (boundary None s).0
-  pub hits : AreHits breakpoint (suc more) panel s (cycles_of hit)
+  pub hits : AreHits condition (suc more) panel s (cycles_of hit)
 
 -- Orders that trigger no watch were taken, and then one boundary, which is an order too unless it is the only one. It
 -- began at this cycle.
@@ -103,18 +97,18 @@ IsFewerThan wanted (found.At cycle) = Unit {0}
 IsFewerThan wanted (found.Fewer number) = number < wanted
 
 -- a stretch of this many boundaries was searched
-pub record HasSearched (breakpoint : Breakpoint) (wanted n : ℕ) (panel : Face) (s : State) (answer : Found) : Type 0 where
+pub record HasSearched (condition : Condition) (wanted n : ℕ) (panel : Face) (s : State) (answer : Found) : Type 0 where
   pub cycles : List ℕ
-  pub hits : AreHits breakpoint n panel s cycles
+  pub hits : AreHits condition n panel s cycles
   pub found : IsFoundIn wanted cycles answer
 
 -- The search has come back to a point on the way from a start to now: so many hits are still wanted before it.
-pub record IsSearching (breakpoint : Breakpoint) (count wanted : ℕ) (start now : State) (point : Point) : Type 0 where
+pub record IsSearching (condition : Condition) (count wanted : ℕ) (start now : State) (point : Point) : Type 0 where
   pub earlier : ℕ
   pub later : ℕ
   pub at : IsAt point (after earlier start)
   pub reaches_now : after later (after earlier start) ≡ now
   pub cycles : List ℕ
-  pub hits : AreHits breakpoint later (panel_at earlier start) (after earlier start) cycles
+  pub hits : AreHits condition later (panel_at earlier start) (after earlier start) cycles
   pub rest : length cycles + wanted ≡ count
   pub some : 0 < wanted

@@ -2,13 +2,13 @@
 ghost use Rattle.std.specs.Prelude.{◌≡◌, ◌<◌, None};
 ghost use Rattle.agc_machine.specs.Boundary.{boundary};
 ghost use Rattle.agc_machine.specs.OrderRun.{IsWatchInRange};
-ghost use Rattle.agc_session.specs.Breakpoint.{panel_after};
+ghost use Rattle.agc_session.specs.Condition.{panel_after};
 ghost use Rattle.agc_session.specs.Search.{HasAdvanced, HasPassed};
 ghost use Rattle.agc_session.specs.Session.{shown_after};
 ghost use Rattle.agc_store.specs.Places.{erasable_cells};
 
-use crate::breakpoint::{
-    Breakpoint, has_changed, is_order_next, is_service_next, place_number, window_address, word_of,
+use crate::condition::{
+    Condition, has_changed, is_order_next, is_service_next, place_number, window_address, word_of,
 };
 use agc_listing::Location;
 use agc_machine::{Machine, Stepped, Watch};
@@ -24,7 +24,7 @@ pub(crate) fn pass_to_order(
     end: u64,
 ) -> Option<u64>
     requires runs { machine.old.stopped ≡ None }
-    ensures { HasAdvanced (Breakpoint.Order place) end panel.old panel.new machine.old machine.new result }
+    ensures { HasAdvanced (Condition.Order place) end panel.old panel.new machine.old machine.new result }
 {
     if is_order_next(machine, place) {
         return Some(pass(machine, panel));
@@ -46,7 +46,7 @@ pub(crate) fn pass_to_service(
     end: u64,
 ) -> Option<u64>
     requires runs { machine.old.stopped ≡ None }
-    ensures { HasAdvanced (Breakpoint.Interrupt which) end panel.old panel.new machine.old machine.new result }
+    ensures { HasAdvanced (Condition.Interrupt which) end panel.old panel.new machine.old machine.new result }
 {
     if is_service_next(machine, which) {
         return Some(pass(machine, panel));
@@ -65,7 +65,7 @@ pub(crate) fn pass_to_change(
 ) -> Option<u64>
     requires range { cell < erasable_cells }
     requires runs { machine.old.stopped ≡ None }
-    ensures { HasAdvanced (Breakpoint.Cell cell) end panel.old panel.new machine.old machine.new result }
+    ensures { HasAdvanced (Condition.Cell cell) end panel.old panel.new machine.old machine.new result }
 {
     let before = word_of(machine.store(), cell);
     let watch = Watch::Change { cell, word: before };

@@ -1,8 +1,14 @@
 //! Laws of sessions, each the contract of a function that does nothing. `Session::script` is proved to return a
 //! script that these laws are about.
-ghost use Rattle.std.specs.Prelude.{◌≡◌, ◌⊎◌, ℕ, List};
+ghost use Rattle.std.specs.Prelude.{◌≡◌, ◌⊎◌, ◌↔◌, ℕ, IsTrue, List, None, false, true};
+ghost use Rattle.agc_machine.specs.Boundary.{boundary};
 ghost use Rattle.agc_machine.specs.Laws.{IsSameRun};
+ghost use Rattle.agc_machine.specs.State.{State};
+ghost use Rattle.agc_machine.specs.declared.answer.Stepped.{Stepped};
+ghost use Rattle.agc_panel.specs.declared.face.Face.{Face};
 ghost use Rattle.agc_script.specs.declared.event.Event.{Event};
+ghost use Rattle.agc_session.specs.Condition.{Meets, armed_in, is_hit, is_on_next};
+ghost use Rattle.agc_session.specs.declared.condition.Condition.{Condition};
 ghost use Rattle.agc_session.specs.Session.{ComesTo, IsInjectedAgain, IsReplay, SessionState, script_of};
 
 /// Two sessions with the same rope, limit and script are on one run: one reaches the exact state of the other by
@@ -26,4 +32,14 @@ pub fn going_back_is_exact()
         (k : IsReplay (script_of t) t) → h.boundaries ≡ k.boundaries → t.now ≡ s.now }
     ensures panel { (cycle : ℕ) (s t : SessionState) → IsInjectedAgain cycle s t → (h : IsReplay (script_of s) s)
         (k : IsReplay (script_of t) t) → h.boundaries ≡ k.boundaries → t.panel ≡ s.panel }
+{}
+
+/// A run forward and a search back hit at the same boundary, so one goes to the cycle to which the other goes back. A run
+/// ends just before an order or the service of an interrupt, and the boundary that begins then is the hit of a search. For
+/// every other condition it is the boundary that ended the run.
+pub fn forward_and_back_hit_alike()
+    ensures next { (number : ℕ) (what : Condition) (r s : State) (panel shown : Face) (answer : Stepped) → is_on_next what ≡ true
+        → IsTrue (is_hit (armed_in r number what) panel s answer) ↔ Meets what shown s }
+    ensures last { (number : ℕ) (what : Condition) (s : State) (panel : Face) → is_on_next what ≡ false
+        → IsTrue (is_hit (armed_in s number what) panel (boundary None s).0 (boundary None s).1) ↔ Meets what panel s }
 {}

@@ -2,10 +2,10 @@
 #![tactic(auto)]
 
 mod arguments;
-mod breakpoint;
 mod by_orders;
 mod cancellation;
 mod checkpoint;
+mod condition;
 mod fault;
 pub mod laws;
 mod search;
@@ -13,8 +13,8 @@ mod session;
 mod writing;
 
 pub use arguments::{SessionArgs, open_session, session_args, session_from, with_session_args};
-pub use breakpoint::Breakpoint;
 pub use cancellation::{Cancellation, NoCancellation};
+pub use condition::{Armed, Condition};
 pub use fault::{BeginFault, InjectFault, RewindFailed, SearchFault};
-pub use session::{Rewound, Session};
+pub use session::{Advanced, Rewound, Session};
 pub use writing::LINE_ROOM;

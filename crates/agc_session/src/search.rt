@@ -2,17 +2,17 @@
 ghost use Rattle.std.specs.Prelude.{◌≡◌, ◌⊎◌, IsSome, ℕ, ◌+◌, ◌<◌, ◌≤◌, List, [], All, IfOk, IfSome, IsTrue, length, drop, None, ◌↔◌};
 ghost use Rattle.agc_machine.specs.Laws.{after};
 ghost use Rattle.agc_machine.specs.State.{State, start_state};
-ghost use Rattle.agc_session.specs.Breakpoint.{IsBreakpointInRange, IsFoundFrom};
+ghost use Rattle.agc_session.specs.Condition.{IsConditionInRange, IsFoundFrom};
 ghost use Rattle.agc_session.specs.Checkpoints.{IsCheckpoint};
 ghost use Rattle.agc_session.specs.Search.{HasAdvanced, HasCounted, HasSearched, IsAt, IsFewerThan, IsOnWrite, resumed, span};
 ghost use Rattle.agc_session.specs.Session.{start_with};
 ghost use Rattle.agc_script.specs.declared.event.Event.{Event};
 ghost use Rattle.agc_panel.specs.Face.{panel_of};
 
-use crate::breakpoint::{Breakpoint, is_hit_by_write};
 use crate::by_orders::{pass, pass_to_change, pass_to_order, pass_to_service};
 use crate::cancellation::Cancellation;
 use crate::checkpoint::{Checkpoint, Checkpoints};
+use crate::condition::{Condition, is_hit_by_write};
 use crate::fault::SearchFault;
 use crate::session::copied;
 use agc_machine::{Machine, Stepped};
@@ -81,7 +81,7 @@ impl Point {
 /// Returns the cycle of the hit with the number `count`, counted back from a machine, or `None` if there are fewer.
 /// The run of `script` leads to the machine. Fails when memory runs out or the search is cancelled.
 pub(crate) fn search_back<C: Cancellation>(
-    breakpoint: &Breakpoint,
+    condition: &Condition,
     count: u64,
     now: &Machine,
     checkpoints: &Checkpoints,
@@ -89,10 +89,10 @@ pub(crate) fn search_back<C: Cancellation>(
     cancellation: &mut C,
 ) -> Result<Option<u64>, SearchFault>
     requires some { 0 < count }
-    requires range { IsBreakpointInRange breakpoint.now }
+    requires range { IsConditionInRange condition.now }
     requires right { All (IsCheckpoint now.now.processor.store.fixed now.now.limit) checkpoints.now.copies.items }
     ensures { IfOk result (λ found. (n : ℕ) → after n (start_with script.now now.now) ≡ now.now
-        → IsFoundFrom breakpoint.now count (start_with script.now now.now) now.now found) }
+        → IsFoundFrom condition.now count (start_with script.now now.now) now.now found) }
 {
     let alloc = *checkpoints.copies.allocator();
     let mut wanted = count;
@@ -106,7 +106,7 @@ pub(crate) fn search_back<C: Cancellation>(
                 number: wanted,
                 end,
             };
-            match search_stretch(alloc, breakpoint, hit, copy, script, cancellation)? {
+            match search_stretch(alloc, condition, hit, copy, script, cancellation)? {
                 Found::At(cycle) => return Ok(Some(cycle)),
                 Found::Fewer(number) => {
                     wanted -= number;
@@ -120,7 +120,7 @@ pub(crate) fn search_back<C: Cancellation>(
         number: wanted,
         end,
     };
-    match search_stretch(alloc, breakpoint, hit, &start, script, cancellation)? {
+    match search_stretch(alloc, condition, hit, &start, script, cancellation)? {
         Found::At(cycle) => Ok(Some(cycle)),
         Found::Fewer(_) => Ok(None),
     }
@@ -157,17 +157,17 @@ fn start_of(alloc: Global, machine: &Machine) -> Option<Checkpoint>
 /// more if that is not the last one.
 fn search_stretch<C: Cancellation>(
     alloc: Global,
-    breakpoint: &Breakpoint,
+    condition: &Condition,
     wanted: Wanted,
     from: &Checkpoint,
     script: &Script,
     cancellation: &mut C,
 ) -> Result<Found, SearchFault>
     requires some { 0 < wanted.number }
-    requires range { IsBreakpointInRange breakpoint.now }
+    requires range { IsConditionInRange condition.now }
     requires taken { length from.now.taken ≤ length script.now }
     ensures searched { IfOk result (λ found. (n : ℕ) → IsAt wanted.end (after n (resumed script.now from.now))
-        → HasSearched breakpoint.now wanted.number n from.now.panel (resumed script.now from.now) found) }
+        → HasSearched condition.now wanted.number n from.now.panel (resumed script.now from.now) found) }
     ensures fewer { IfOk result (IsFewerThan wanted.number) }
 {
     is_short(from, script);
@@ -176,7 +176,7 @@ fn search_stretch<C: Cancellation>(
         number: u64::MAX,
         end,
     };
-    let all = count_from(alloc, breakpoint, last, from, script, cancellation)?;
+    let all = count_from(alloc, condition, last, from, script, cancellation)?;
     if all.number < number {
         return Ok(Found::Fewer(all.number));
     }
@@ -187,7 +187,7 @@ fn search_stretch<C: Cancellation>(
         number: all.number - number + 1,
         end,
     };
-    let first = count_from(alloc, breakpoint, hit, from, script, cancellation)?;
+    let first = count_from(alloc, condition, hit, from, script, cancellation)?;
     Ok(Found::At(first.last))
 }
 
@@ -202,21 +202,21 @@ fn is_short(from: &Checkpoint, script: &Script)
 /// Runs a copy of the machine to a point, or to the hit with a number if that comes first.
 fn count_from<C: Cancellation>(
     alloc: Global,
-    breakpoint: &Breakpoint,
+    condition: &Condition,
     wanted: Wanted,
     from: &Checkpoint,
     script: &Script,
     cancellation: &mut C,
 ) -> Result<Counted, SearchFault>
     requires some { 0 < wanted.number }
-    requires range { IsBreakpointInRange breakpoint.now }
+    requires range { IsConditionInRange condition.now }
     requires taken { length from.now.taken ≤ length script.now }
     ensures { IfOk result (λ hits. (n : ℕ) → IsAt wanted.end (after n (resumed script.now from.now))
-        → HasCounted breakpoint.now n wanted.number from.now.panel (resumed script.now from.now) hits) }
+        → HasCounted condition.now n wanted.number from.now.panel (resumed script.now from.now) hits) }
 {
     let mut machine = resume_copy(alloc, from, script).ok_or(SearchFault::Memory)?;
     let mut panel = from.panel;
-    count_hits(breakpoint, wanted, &mut machine, &mut panel, cancellation)
+    count_hits(condition, wanted, &mut machine, &mut panel, cancellation)
 }
 
 /// Returns the machine of a copy, with the events of a script that it has not taken.
@@ -231,23 +231,23 @@ fn resume_copy(alloc: Global, from: &Checkpoint, script: &Script) -> Option<Mach
 
 /// Runs a machine to a point ahead, or to the hit with a number if that comes first, and counts the hits.
 fn count_hits<C: Cancellation>(
-    breakpoint: &Breakpoint,
+    condition: &Condition,
     wanted: Wanted,
     machine: &mut Machine,
     panel: &mut Panel,
     cancellation: &mut C,
 ) -> Result<Counted, SearchFault>
     requires some { 0 < wanted.number }
-    requires range { IsBreakpointInRange breakpoint.now }
+    requires range { IsConditionInRange condition.now }
     ensures { IfOk result (λ hits. (n : ℕ) → IsAt wanted.end (after n machine.old)
-        → HasCounted breakpoint.now n wanted.number panel.old machine.old hits) }
+        → HasCounted condition.now n wanted.number panel.old machine.old hits) }
 {
     let Wanted { number: most, end } = wanted;
     let mut hits = Counted { number: 0, last: 0 };
     let mut pause = machine.cycle();
     while !has_ended(machine, end) {
         pause = next_pause(pause, machine.cycle(), cancellation)?;
-        if let Some(cycle) = advance(breakpoint, machine, panel, end.cycle.min(pause)) {
+        if let Some(cycle) = advance(condition, machine, panel, end.cycle.min(pause)) {
             hits = Counted {
                 number: hits.number + 1,
                 last: cycle,
@@ -277,36 +277,31 @@ fn next_pause<C: Cancellation>(
 }
 
 /// Takes one boundary or more to a cycle, but none after a hit. Returns the cycle of the hit, if there is one.
-fn advance(
-    breakpoint: &Breakpoint,
-    machine: &mut Machine,
-    panel: &mut Panel,
-    end: u64,
-) -> Option<u64>
-    requires range { IsBreakpointInRange breakpoint.now }
+fn advance(condition: &Condition, machine: &mut Machine, panel: &mut Panel, end: u64) -> Option<u64>
+    requires range { IsConditionInRange condition.now }
     requires runs { machine.old.stopped ≡ None }
-    ensures { HasAdvanced breakpoint.now end panel.old panel.new machine.old machine.new result }
+    ensures { HasAdvanced condition.now end panel.old panel.new machine.old machine.new result }
 {
-    match breakpoint {
-        Breakpoint::Boundary => Some(pass(machine, panel)),
-        Breakpoint::Order(place) => pass_to_order(*place, machine, panel, end),
-        Breakpoint::Cell(cell) => pass_to_change(*cell, machine, panel, end),
-        Breakpoint::Interrupt(which) => pass_to_service(*which, machine, panel, end),
-        Breakpoint::Write { .. } | Breakpoint::Panel => {
-            advance_to_write(breakpoint, machine, panel, end)
+    match condition {
+        Condition::Boundary => Some(pass(machine, panel)),
+        Condition::Order(place) => pass_to_order(*place, machine, panel, end),
+        Condition::Cell(cell) => pass_to_change(*cell, machine, panel, end),
+        Condition::Interrupt(which) => pass_to_service(*which, machine, panel, end),
+        Condition::Write { .. } | Condition::Panel | Condition::Shows(_) => {
+            advance_to_write(condition, machine, panel, end)
         }
     }
 }
 
 /// Runs to the next write, or to the first boundary that ends at a cycle or later.
 fn advance_to_write(
-    breakpoint: &Breakpoint,
+    condition: &Condition,
     machine: &mut Machine,
     panel: &mut Panel,
     end: u64,
 ) -> Option<u64>
-    requires { IsOnWrite breakpoint.now }
-    ensures { HasAdvanced breakpoint.now end panel.old panel.new machine.old machine.new result }
+    requires { IsOnWrite condition.now }
+    ensures { HasAdvanced condition.now end panel.old panel.new machine.old machine.new result }
 {
     let stepped = machine.next_write_before(end);
     let Stepped::Wrote(write) = &stepped else {
@@ -314,7 +309,7 @@ fn advance_to_write(
     };
     let before = *panel;
     panel.take(write);
-    if is_hit_by_write(breakpoint, &stepped, &before, panel) {
+    if is_hit_by_write(condition, &stepped, &before, panel) {
         Some(write.cycle)
     } else {
         None

@@ -16,19 +16,20 @@ ghost use Rattle.agc_machine.specs.State.{start_state};
 ghost use Rattle.agc_machine.specs.declared.answer.Stepped.{Stepped};
 ghost use Rattle.agc_machine.specs.Replay.{writes_in};
 ghost use Rattle.agc_panel.specs.Face.{panel_of};
-ghost use Rattle.agc_session.specs.Breakpoint.{Ends, HasRunTo, IsBreakpointInRange, IsFoundBack};
+ghost use Rattle.agc_session.specs.Condition.{AreArmedInRange, Ends, HasRunTo, IsConditionInRange, IsFoundBack, first_hit, next_stretch};
 ghost use Rattle.agc_session.specs.Checkpoints.{IsCheckpoint, IsOnWay, counted};
 ghost use Rattle.agc_session.specs.Session.{HasGone, HasReached, IsReplay, injected_now, shown_after, start_with};
 ghost use Rattle.agc_session.specs.Session.{discarded, retained_before, script_of, script_before};
 
-use crate::breakpoint::{
-    Breakpoint, has_changed, is_hit_by_write, is_order_next, is_service_next, word_of,
-};
 use crate::cancellation::{Cancellation, NoCancellation};
 use crate::checkpoint::{Checkpoint, Checkpoints};
+use crate::condition::{
+    Armed, Condition, first_hit, has_changed, is_hit_by_write, is_order_next, is_service_next,
+    needs_each, word_of,
+};
 use crate::fault::{BeginFault, InjectFault, RewindFailed, SearchFault};
 use crate::search::search_back;
-use crate::writing::write_joined;
+use crate::writing::{events_since, write_joined};
 use agc_machine::{LimitFault, Machine, Stepped};
 use agc_panel::Panel;
 use agc_script::{MOST_EVENTS, Script, What};
@@ -71,6 +72,15 @@ pub struct Session {
 pub struct Rewound {
     pub session: Session,
     pub writes: usize,
+}
+
+/// What a run has come to.
+#[derive(Clone, Copy, Debug, PartialEq, Eq)]
+pub struct Advanced {
+    /// What the last boundary returned.
+    pub stepped: Stepped,
+    /// The first condition that it has hit.
+    pub hit: Option<Armed>,
 }
 
 /// A state from which a run continues.
@@ -403,20 +413,20 @@ impl Session {
         })
     }
 
-    /// Returns the cycle at which the last boundary before now began that hits a breakpoint: with `count` 2 the last but
+    /// Returns the cycle at which the last boundary before now began that hits a condition: with `count` 2 the last but
     /// one, and so on. Returns `None` if there were fewer. Boundaries of a stopped machine do not count. Runs copies of
     /// the machine, and fails when memory runs out.
     pub fn last_hit(
         &self,
         alloc: Global,
-        breakpoint: Breakpoint,
+        condition: Condition,
         count: u64,
     ) -> Result<Option<u64>, AllocError>
         requires some { 0 < count }
-        requires range { IsBreakpointInRange breakpoint }
-        ensures { IfOk result (IsFoundBack breakpoint count self.now) }
+        requires range { IsConditionInRange condition }
+        ensures { IfOk result (IsFoundBack condition count self.now) }
     {
-        match self.last_hit_unless(alloc, breakpoint, count, &mut NoCancellation) {
+        match self.last_hit_unless(alloc, condition, count, &mut NoCancellation) {
             Ok(found) => Ok(found),
             Err(_) => Err(AllocError),
         }
@@ -427,17 +437,17 @@ impl Session {
     pub fn last_hit_unless<C: Cancellation>(
         &self,
         alloc: Global,
-        breakpoint: Breakpoint,
+        condition: Condition,
         count: u64,
         cancellation: &mut C,
     ) -> Result<Option<u64>, SearchFault>
         requires some { 0 < count }
-        requires range { IsBreakpointInRange breakpoint }
-        ensures { IfOk result (IsFoundBack breakpoint count self.now) }
+        requires range { IsConditionInRange condition }
+        ensures { IfOk result (IsFoundBack condition count self.now) }
     {
         let script = self.script(alloc).ok_or(SearchFault::Memory)?;
         search_back(
-            &breakpoint,
+            &condition,
             count,
             &self.machine,
             &self.checkpoints,
@@ -446,15 +456,41 @@ impl Session {
         )
     }
 
-    /// Runs to the first boundary that hits a breakpoint, and returns true; for an order, to just before it. Returns
+    /// Runs on towards the first of some conditions that is hit: to the next channel write if only a write can hit one,
+    /// but no further than [`go_on`](Session::go_on), otherwise by one boundary.
+    pub fn advance(&mut self, armed: &[Armed], cycle: u64) -> Advanced
+        requires { AreArmedInRange armed.now }
+        ensures gone { HasGone self.old (next_stretch armed.now cycle self.old.now) result.stepped self.new }
+        ensures hit { result.hit ≡ first_hit armed.now self.old.panel self.new.now result.stepped }
+        ensures channel { HasChannel result.stepped }
+    {
+        let before = *self.panel();
+        let stepped = self.run_stretch(armed, cycle);
+        let hit = first_hit(armed, &stepped, &before, self.panel(), self.machine());
+        Advanced { stepped, hit }
+    }
+
+    /// Does the same without looking whether a condition is hit.
+    fn run_stretch(&mut self, armed: &[Armed], cycle: u64) -> Stepped
+        ensures gone { HasGone self.old (next_stretch armed.now cycle self.old.now) result self.new }
+        ensures channel { HasChannel result }
+    {
+        if needs_each(armed) {
+            self.step()
+        } else {
+            self.go_on(cycle)
+        }
+    }
+
+    /// Runs to the first boundary that hits a condition, and returns true; for an order, to just before it. Returns
     /// false if a boundary ends at `cycle` or later, or the machine stops, before that. Takes no boundary if the cycle
     /// is reached already.
-    pub fn go_until(&mut self, breakpoint: Breakpoint, cycle: u64) -> bool
-        requires { IsBreakpointInRange breakpoint }
-        ensures { HasRunTo breakpoint cycle self.old self.new result }
+    pub fn go_until(&mut self, condition: Condition, cycle: u64) -> bool
+        requires { IsConditionInRange condition }
+        ensures { HasRunTo condition cycle self.old self.new result }
     {
         while self.is_short_of(cycle) {
-            if self.step_to(&breakpoint) {
+            if self.step_to(&condition) {
                 return true;
             }
         }
@@ -470,34 +506,34 @@ impl Session {
     }
 
     /// Takes one boundary, and returns whether a run forward ends there.
-    fn step_to(&mut self, breakpoint: &Breakpoint) -> bool
-        requires { IsBreakpointInRange breakpoint.now }
+    fn step_to(&mut self, condition: &Condition) -> bool
+        requires { IsConditionInRange condition.now }
         ensures gone { (answer : Stepped) × HasGone self.old (boundary None self.old.now) answer self.new }
-        ensures ends { IsTrue result ↔ Ends breakpoint.now self.old.panel self.old.now }
+        ensures ends { IsTrue result ↔ Ends condition.now self.old.panel self.old.now }
     {
-        match breakpoint {
-            Breakpoint::Boundary => {
+        match condition {
+            Condition::Boundary => {
                 self.step();
                 true
             }
-            Breakpoint::Order(place) => {
+            Condition::Order(place) => {
                 self.step();
                 is_order_next(self.machine(), *place)
             }
-            Breakpoint::Cell(cell) => {
+            Condition::Cell(cell) => {
                 let before = word_of(self.machine().store(), *cell);
                 self.step();
                 has_changed(self.machine().store(), *cell, before)
             }
-            Breakpoint::Interrupt(which) => {
+            Condition::Interrupt(which) => {
                 let hit = is_service_next(self.machine(), *which);
                 self.step();
                 hit
             }
-            Breakpoint::Write { .. } | Breakpoint::Panel => {
+            Condition::Write { .. } | Condition::Panel | Condition::Shows(_) => {
                 let before = *self.panel();
                 let stepped = self.step();
-                is_hit_by_write(breakpoint, &stepped, &before, self.panel())
+                is_hit_by_write(condition, &stepped, &before, self.panel())
             }
         }
     }
@@ -518,6 +554,24 @@ impl Session {
     {
         let _count = self.script.len();
         write_joined(out, line, self.script.rest(0), self.injected.rest(0))
+    }
+
+    /// Writes the events that [`rewind`](Session::rewind) to `cycle` discards as text, a line for each. Uses `line` as
+    /// [`write_script`](Session::write_script) does.
+    #[tactic(auto, unfolding(agc_script::specs::Written::script_text))]
+    pub fn write_discarded<W: Write>(
+        &self,
+        cycle: u64,
+        line: &mut String,
+        out: &mut W,
+    ) -> io::Result<()>
+        ensures written { OnOk result (Appends (W.contents out.old) (W.contents out.new)
+            (script_text (discarded cycle self.now))) }
+    {
+        let _count = self.retained.len();
+        let retained = events_since(self.retained.rest(0), cycle);
+        let injected = events_since(self.injected.rest(0), cycle);
+        write_joined(out, line, retained, injected)
     }
 
     /// Returns the machine in its present state.

@@ -1,11 +1,12 @@
 //! Writes a script line by line, so that no copy of it is needed.
-ghost use Rattle.std.specs.Prelude.{◌≡◌, ◌≤◌, ◌<◌, ◌++◌, ◌∷◌, [], length, take, position, nat_lt, OnOk, IfOk, IfSome};
+ghost use Rattle.std.specs.Prelude.{◌≡◌, ◌≤◌, ◌<◌, ◌++◌, ◌∷◌, [], length, take, position, nat_le, nat_lt, OnOk, IfOk, IfSome};
 ghost use Rattle.std.specs.Prelude.{string_bytes};
 ghost use Rattle.std.specs.List.{flat_map};
 ghost use Rattle.std.specs.Io.KnownBytes.{Appends};
 ghost use Rattle.agc_script.specs.Event.{most_events};
 ghost use Rattle.agc_script.specs.Merge.{due_at, joined};
 ghost use Rattle.agc_script.specs.Written.{event_text};
+ghost use Rattle.agc_session.specs.Session.{since};
 
 use agc_script::{Event, push_what};
 use std::alloc::AllocError;
@@ -58,6 +59,23 @@ fn first_later(events: &[Event], cycle: u64) -> Option<usize>
     ensures bound { IfSome result (λ place. place < length events.now) }
 {
     events.iter().position(|event| event.cycle > cycle)
+}
+
+/// Returns the events at a cycle or later.
+pub(crate) fn events_since(events: &[Event], cycle: u64) -> &[Event]
+    ensures since { result.now ≡ since cycle events.now }
+    ensures few { length result.now ≤ length events.now }
+{
+    let place = first_since(events, cycle).unwrap_or(events.len());
+    &events[place..]
+}
+
+/// Returns the position of the first event at a cycle or later.
+fn first_since(events: &[Event], cycle: u64) -> Option<usize>
+    ensures place { result ≡ position (λ event. nat_le cycle event.cycle) events.now }
+    ensures bound { IfSome result (λ place. place < length events.now) }
+{
+    events.iter().position(|event| event.cycle >= cycle)
 }
 
 /// Writes events, a line each.

@@ -3,10 +3,10 @@ use Rattle.std.specs.Prelude.{◌≡◌, ℕ, ◌+◌, ◌-◌, ◌^◌, Bool, t
 use Rattle.std.specs.Option.{option_map_or}
 use Rattle.agc_script.specs.Merge.{joined}
 use Rattle.agc_script.specs.declared.event.Event.{Event}
-use Rattle.agc_session.specs.Breakpoint.{HasRunTo}
+use Rattle.agc_session.specs.Condition.{HasRunTo}
 use Rattle.agc_session.specs.Checkpoints.{IsOnRun}
 use Rattle.agc_session.specs.Session.{SessionState, discarded, retained_before, script_before, script_of, start_with}
-use Rattle.agc_session.specs.declared.breakpoint.Breakpoint.{Breakpoint}
+use Rattle.agc_session.specs.declared.condition.Condition.{Condition}
 use Rattle.agc_tui.specs.declared.keyboard.Button.{Button}
 use Rattle.agc_tui.specs.declared.keyboard.Button.TheVariants as button
 use Rattle.agc_tui.specs.declared.operator.Operator.{Operator}
@@ -37,13 +37,13 @@ pub record Keeps (s t : SessionState) : Type 0 where
   pub more : List Event
   pub injected : t.injected ≡ s.injected ++ more
 
--- A session ran forward to a breakpoint, after the keys that were due had been pressed, and up to the cycle at which the
+-- A session ran forward to a condition, after the keys that were due had been pressed, and up to the cycle at which the
 -- next key is due. An idle operator's session ran to the cycle.
-pub record HasSought (breakpoint : Breakpoint) (cycle : ℕ) (o : Operator) (t : SessionState) (hit : Bool) : Type 0 where
+pub record HasSought (condition : Condition) (cycle : ℕ) (o : Operator) (t : SessionState) (hit : Bool) : Type 0 where
   pub pressed : SessionState
   pub keeps : Keeps o.session pressed
   pub end : ℕ
-  pub run : HasRunTo breakpoint end pressed t hit
+  pub run : HasRunTo condition end pressed t hit
   pub idle : IsIdle o → (pressed ≡ o.session) × (end ≡ cycle)
 
 -- the cycle after one, within 64 bits

@@ -1,18 +1,18 @@
 -- The searches in time: which byte types which, and what each looks for.
 use Rattle.std.specs.Prelude.{ℕ, ◌==◌, Bool, List, [], ◌∷◌, find, Option, None}
 use Rattle.std.specs.Option.{option_map}
-use Rattle.agc_session.specs.declared.breakpoint.Breakpoint.{Breakpoint}
-use Rattle.agc_session.specs.declared.breakpoint.Breakpoint.TheVariants as breakpoint
+use Rattle.agc_session.specs.declared.condition.Condition.{Condition}
+use Rattle.agc_session.specs.declared.condition.Condition.TheVariants as condition
 use Rattle.agc_tui.specs.declared.search.Search.{Search}
 use Rattle.agc_tui.specs.declared.search.Search.TheVariants as search
 use Rattle.agc_tui.specs.declared.search.Target.{Target}
 use Rattle.agc_tui.specs.declared.search.Target.TheVariants as target
 
 -- any interrupt, any channel write, or any change of the panel
-abbrev pub breakpoint_of : Target → Breakpoint
-breakpoint_of target.Interrupt = breakpoint.Interrupt None
-breakpoint_of target.Write = breakpoint.Write None None
-breakpoint_of target.Panel = breakpoint.Panel
+abbrev pub condition_of : Target → Condition
+condition_of target.Interrupt = condition.Interrupt None
+condition_of target.Write = condition.Write None None
+condition_of target.Panel = condition.Panel
 
 -- the bytes that type searches: u, w and d forward, U, W and D back
 abbrev pub typed_searches : List (ℕ × Search)

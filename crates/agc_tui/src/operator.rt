@@ -3,7 +3,7 @@ ghost use Rattle.std.specs.Prelude.{◌≡◌, ◌^◌, ◌-◌, [], false, true
 ghost use Rattle.std.specs.Io.KnownBytes.{Appends};
 ghost use Rattle.agc_script.specs.Event.{IsWhatInRange};
 ghost use Rattle.agc_script.specs.Written.{script_text};
-ghost use Rattle.agc_session.specs.Breakpoint.{HasRunTo, IsBreakpointInRange, IsFoundBack};
+ghost use Rattle.agc_session.specs.Condition.{HasRunTo, IsConditionInRange, IsFoundBack};
 ghost use Rattle.agc_session.specs.Session.{script_of};
 ghost use Rattle.agc_tui.specs.Operator.{HasBegunBack, HasSought, IsCutAt, IsIdle, IsRerunOf, Keeps, is_held};
 
@@ -11,7 +11,7 @@ use crate::history::{History, KEPT};
 use crate::keyboard::Button;
 use agc_machine::{Machine, Stop};
 use agc_script::{MOST_EVENTS, Script, What};
-use agc_session::{Breakpoint, Cancellation, InjectFault, SearchFault, Session};
+use agc_session::{Cancellation, Condition, InjectFault, SearchFault, Session};
 use std::alloc::{AllocError, Global};
 use std::io::{self, Write};
 
@@ -142,16 +142,16 @@ impl Operator {
         Ok(())
     }
 
-    /// Presses the keys that are due, and runs to the first boundary that hits a breakpoint, but not past `cycle`, the stop
+    /// Presses the keys that are due, and runs to the first boundary that hits a condition, but not past `cycle`, the stop
     /// or the cycle at which the next key is due. Returns whether one has hit.
-    pub fn seek(&mut self, breakpoint: Breakpoint, cycle: u64) -> Result<bool, InjectFault>
-        requires { IsBreakpointInRange breakpoint }
-        ensures sought { IfOk result (HasSought breakpoint cycle self.old self.new.session) }
+    pub fn seek(&mut self, condition: Condition, cycle: u64) -> Result<bool, InjectFault>
+        requires { IsConditionInRange condition }
+        ensures sought { IfOk result (HasSought condition cycle self.old self.new.session) }
         ensures kept { Keeps self.old.session self.new.session }
     {
         self.press_due()?;
         let end = self.next_pause(cycle);
-        Ok(self.run_until(breakpoint, end))
+        Ok(self.run_until(condition, end))
     }
 
     /// Takes one boundary, after the keys that are due.
@@ -175,14 +175,14 @@ impl Operator {
         self.session.go_to(cycle);
     }
 
-    /// Runs to the first boundary that hits a breakpoint, or to `cycle` or the stop, without recording boundaries. Returns
+    /// Runs to the first boundary that hits a condition, or to `cycle` or the stop, without recording boundaries. Returns
     /// whether one has hit.
-    fn run_until(&mut self, breakpoint: Breakpoint, cycle: u64) -> bool
-        requires { IsBreakpointInRange breakpoint }
-        ensures { HasRunTo breakpoint cycle self.old.session self.new.session result }
+    fn run_until(&mut self, condition: Condition, cycle: u64) -> bool
+        requires { IsConditionInRange condition }
+        ensures { HasRunTo condition cycle self.old.session self.new.session result }
     {
         self.history.forget();
-        self.session.go_until(breakpoint, cycle)
+        self.session.go_until(condition, cycle)
     }
 
     /// Takes one boundary, or none if the machine has stopped.
@@ -196,7 +196,7 @@ impl Operator {
     }
 
     /// Runs to `cycle` or to the stop, and takes the last boundaries one by one so that they are recorded.
-    fn come_to(&mut self, cycle: u64) {
+    fn run_recorded_to(&mut self, cycle: u64) {
         self.run_to(cycle.saturating_sub(RECENT_CYCLES));
         for _boundary in 0..u64::MAX {
             if cycle <= self.cycle() || self.has_stopped() {
@@ -360,24 +360,24 @@ impl Operator {
         self.return_to(alloc, cycle, rerun)
     }
 
-    /// Begins to go back to where the last boundary before now began that hits a breakpoint, and discards the keys pressed
+    /// Begins to go back to where the last boundary before now began that hits a condition, and discards the keys pressed
     /// after that and all that wait. [`rerun`](Operator::rerun) does the rest. Returns the cycle. If there was no such
     /// boundary, the search was cancelled or memory ran out, nothing has changed.
     pub fn back_to_last<C: Cancellation>(
         self,
         alloc: Global,
-        breakpoint: Breakpoint,
+        condition: Condition,
         cancellation: &mut C,
     ) -> (Operator, Result<Option<u64>, SearchFault>)
-        requires { IsBreakpointInRange breakpoint }
-        ensures found { IfOk result.1 (IsFoundBack breakpoint 1 self.session) }
+        requires { IsConditionInRange condition }
+        ensures found { IfOk result.1 (IsFoundBack condition 1 self.session) }
         ensures back { IfOk result.1 (λ found. IfSome found (λ cycle. HasBegunBack cycle self result.0)) }
         ensures none { IfOk result.1 (λ found. found ≡ None → result.0 ≡ self) }
         ensures fault { OnErr result.1 (result.0 ≡ self) }
     {
         match self
             .session
-            .last_hit_unless(alloc, breakpoint, 1, cancellation)
+            .last_hit_unless(alloc, condition, 1, cancellation)
         {
             Ok(Some(cycle)) => {
                 let (operator, is_new) = self.back_to_events(alloc, cycle);
@@ -466,7 +466,7 @@ impl Operator {
         if next < rerun.to.saturating_sub(RECENT_CYCLES) {
             self.run_to(next);
         } else {
-            self.come_to(rerun.to);
+            self.run_recorded_to(rerun.to);
             if rerun.with_events {
                 self.take_events();
             }

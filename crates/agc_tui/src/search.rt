@@ -1,9 +1,9 @@
 //! The searches in time: which byte types which, and what each looks for.
 ghost use Rattle.std.specs.Prelude.{◌≡◌};
-ghost use Rattle.agc_session.specs.Breakpoint.{IsBreakpointInRange};
-ghost use Rattle.agc_tui.specs.Search.{breakpoint_of, search_of};
+ghost use Rattle.agc_session.specs.Condition.{IsConditionInRange};
+ghost use Rattle.agc_tui.specs.Search.{condition_of, search_of};
 
-use agc_session::Breakpoint;
+use agc_session::Condition;
 
 /// What a search looks for.
 #[derive(Clone, Copy, Debug, PartialEq, Eq)]
@@ -26,18 +26,18 @@ pub enum Search {
 }
 
 impl Target {
-    /// Returns the breakpoint that stands for it.
-    pub fn breakpoint(self) -> Breakpoint
-        ensures value { result ≡ breakpoint_of self }
-        ensures range { IsBreakpointInRange result }
+    /// Returns the condition that stands for it.
+    pub fn condition(self) -> Condition
+        ensures value { result ≡ condition_of self }
+        ensures range { IsConditionInRange result }
     {
         match self {
-            Target::Interrupt => Breakpoint::Interrupt(None),
-            Target::Write => Breakpoint::Write {
+            Target::Interrupt => Condition::Interrupt(None),
+            Target::Write => Condition::Write {
                 channel: None,
                 word: None,
             },
-            Target::Panel => Breakpoint::Panel,
+            Target::Panel => Condition::Panel,
         }
     }
 }

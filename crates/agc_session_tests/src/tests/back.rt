@@ -4,8 +4,8 @@ use super::console::{answers, asks, refuses};
 use super::search::TURN;
 use super::session_of;
 use agc_listing::Location;
-use agc_repl::{Command, CommandFault, CommandName};
-use agc_session::Breakpoint;
+use agc_repl::{Command, CommandFault, CommandName, Search};
+use agc_session::Condition;
 use agc_test_support::RELAY_WORD;
 use agc_word::Narrow;
 use std::process::Abort;
@@ -81,9 +81,39 @@ error: NotHit: no boundary before now hits it
     answers(&rt, session_of(&rt, RELAY_WORD, "", 1000), parsed, wanted);
 }
 
-/// Checks that a line searches back for this hit, counted from the last one.
-fn searches(rt: &impl Abort, line: &[u8], what: Breakpoint, count: u64) {
-    asks(rt, line, Command::BackTo { what, count });
+/// As in the session before, the interrupt begins at 20 and RESUME at 23; INCR ends at 31.
+#[test]
+fn dropped_events_are_listed(rt: HostRuntime) {
+    let parsed =
+        b"quiet\ngo to 20\nkey 1\nback list 20\nscript\nkey 2\ngo to 30\npoke 0 101 5\nback list until 4024
+input 30 5\nback list 24\nback list step 99\nback list 0\nback list 0\nscript\n";
+    let wanted = "at 0
+at 20
+at 20
+20 key 1
+at 20
+at 20
+at 20
+at 31
+at 31
+31 poke 0 101 00005
+at 23
+at 23
+error: Ahead: the machine has not reached this cycle; go to C runs on to it
+error: NotHit: there are fewer boundaries before now
+20 key 2
+23 input 30 00005
+at 0
+at 0
+at 0
+";
+    answers(&rt, session_of(&rt, TURN, "", 1000), parsed, wanted);
+}
+
+/// Checks that a line searches back for this hit, counted from the last one, and that with `list` it lists what it drops.
+fn searches(rt: &impl Abort, line: &[u8], what: Condition, count: u64) {
+    let lists = line.starts_with(b"back list ".as_slice());
+    asks(rt, line, Command::BackTo(Search { what, count, lists }));
 }
 
 /// Checks that a line has another number of words than `back` takes.
@@ -93,21 +123,23 @@ fn is_misused(rt: &impl Abort, line: &[u8]) {
 
 #[test]
 fn searches_are_read(rt: HostRuntime) {
-    let order = Breakpoint::Order(Location::Fixed(0o4001));
+    let order = Condition::Order(Location::Fixed(0o4001));
     let channel = Some(0o10);
     let word = Some(Narrow::with_bits(0o44017));
-    searches(&rt, b"back step", Breakpoint::Boundary, 1);
-    searches(&rt, b"back step 12", Breakpoint::Boundary, 12);
+    searches(&rt, b"back step", Condition::Boundary, 1);
+    searches(&rt, b"back step 12", Condition::Boundary, 12);
+    searches(&rt, b"back list step 12", Condition::Boundary, 12);
+    searches(&rt, b"back list until panel", Condition::Panel, 1);
     searches(&rt, b"back until 4001", order, 1);
-    searches(&rt, b"back until cell 100", Breakpoint::Cell(0o100), 1);
-    searches(&rt, b"back until interrupt", Breakpoint::Interrupt(None), 1);
-    searches(&rt, b"back until panel", Breakpoint::Panel, 1);
-    let any = Breakpoint::Write {
+    searches(&rt, b"back until cell 100", Condition::Cell(0o100), 1);
+    searches(&rt, b"back until interrupt", Condition::Interrupt(None), 1);
+    searches(&rt, b"back until panel", Condition::Panel, 1);
+    let any = Condition::Write {
         channel,
         word: None,
     };
     searches(&rt, b"back until write 10", any, 1);
-    let one = Breakpoint::Write { channel, word };
+    let one = Condition::Write { channel, word };
     searches(&rt, b"back until write 10 44017", one, 1);
 }
 
@@ -123,6 +155,8 @@ fn wrong_searches_are_refused(rt: HostRuntime) {
     refuses(&rt, b"back until interrupt T9", CommandFault::BadInterrupt);
     is_misused(&rt, b"back");
     is_misused(&rt, b"back 5 6");
+    is_misused(&rt, b"back list");
+    is_misused(&rt, b"back list 5 list");
     is_misused(&rt, b"back step 1 2");
     is_misused(&rt, b"back until");
     is_misused(&rt, b"back until 4001 within 5");

@@ -36,6 +36,35 @@ at 3
     answers(&rt, session_of(&rt, RELAY_WORD, "", 1000), parsed, wanted);
 }
 
+/// The machine takes none of the boundaries that `ahead` shows: an order that writes, and an event of the script after
+/// an injected one.
+#[test]
+fn coming_boundaries_are_shown_and_not_taken(rt: HostRuntime) {
+    let parsed = b"go to 3\nahead\nwrites\nahead 0\nstep\nahead 0x\n";
+    let wanted = "at 3
+3 4002 01010 WRITE 010 > 010 54171 | A 154171 L 00000 Q 000000 Z 4004 EB 0 FB 00
+at 3
+writes 0
+at 3
+at 3
+3 4002 01010 WRITE 010 > 010 54171 | A 154171 L 00000 Q 000000 Z 4004 EB 0 FB 00
+at 5
+error: BadNumber: cycles, boundaries and breakpoints are 1 to 13 decimal digits, such as 1000000, at most 1000000000000
+";
+    answers(&rt, session_of(&rt, RELAY_WORD, "", 1000), parsed, wanted);
+    let wanted = "at 0
+0 4000 14000 TCF 4000 | A 000000 L 00000 Q 000000 Z 4001 EB 0 FB 00
+1 - event poke 0 100 00007 | A 000000 L 00000 Q 000000 Z 4001 EB 0 FB 00
+1 4000 14000 TCF 4000 | A 000000 L 00000 Q 000000 Z 4001 EB 0 FB 00
+2 - stop Limit | A 000000 L 00000 Q 000000 Z 4001 EB 0 FB 00
+at 0
+cell 0100 00000
+at 0
+";
+    let session = session_of(&rt, IDLE, "1 poke 0 100 7\n", 2);
+    answers(&rt, session, b"poke 0 101 1\nahead 10\ncell 100\n", wanted);
+}
+
 #[test]
 fn a_run_is_reported_until_its_stop(rt: HostRuntime) {
     let parsed = b"until write 10\nuntil 4002\ngo 9\ngo 9\nkey VERB\nback 0\n";

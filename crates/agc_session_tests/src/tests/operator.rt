@@ -301,7 +301,7 @@ fn seeks(
     equal_at(
         rt,
         target,
-        operator.seek(target.breakpoint(), before),
+        operator.seek(target.condition(), before),
         Ok(hit),
     );
     equal_at(rt, target, operator.cycle(), cycle);
@@ -317,7 +317,7 @@ fn seeks_back(
 ) -> Operator {
     let (mut operator, found) = operator.back_to_last(
         rt.alloc(),
-        target.breakpoint(),
+        target.condition(),
         &mut NoCancellation,
     );
     equal_at(rt, target, found.ok().expect(rt, "memory"), wanted);
@@ -364,8 +364,8 @@ fn cancelled_searches_change_nothing(rt: HostRuntime) {
     let mut operator = operator_with(&rt, TURN, "");
     seeks(&rt, &mut operator, Target::Write, 100, true, 5);
     type_key(&rt, &mut operator, Button::Coded(Key::One));
-    let breakpoint = Target::Write.breakpoint();
-    let (operator, found) = operator.back_to_last(rt.alloc(), breakpoint, &mut AlwaysCancelled);
+    let condition = Target::Write.condition();
+    let (operator, found) = operator.back_to_last(rt.alloc(), condition, &mut AlwaysCancelled);
     equal(&rt, found, Err(SearchFault::Cancelled));
     equal(&rt, operator.rerun_end(), None);
     equal(&rt, operator.waiting(), 1);

@@ -2,8 +2,9 @@
 use super::console::{asks, reads, refuses};
 use agc_listing::Location;
 use agc_panel::{Table, WatchFault, WatchSpec};
-use agc_repl::{Breakpoint, Command, CommandFault, CommandName, Meant};
+use agc_repl::{Command, CommandFault, CommandName, Meant, Rewind};
 use agc_script::{FaultKind, Key, What};
+use agc_session::Condition;
 use agc_symbols::SymbolTable;
 use agc_word::Narrow;
 use std::process::Abort;
@@ -13,8 +14,26 @@ fn asks_nothing(rt: &impl Abort, line: &[u8]) {
 }
 
 /// Checks that a line runs until a breakpoint, for at most this many cycles.
-fn asks_until(rt: &impl Abort, line: &[u8], what: Breakpoint, within: u64) {
+fn asks_until(rt: &impl Abort, line: &[u8], what: Condition, within: u64) {
     asks(rt, line, Command::Until { what, within });
+}
+
+/// Checks that a line goes back to a cycle, and drops what was injected from it on.
+fn asks_back(rt: &impl Abort, line: &[u8], cycle: u64, lists: bool) {
+    let way = Rewind {
+        cut: cycle,
+        cycle,
+        lists,
+    };
+    asks(rt, line, Command::Back(way));
+}
+
+/// Any write to a channel.
+fn write_to(channel: u16) -> Condition {
+    Condition::Write {
+        channel: Some(channel),
+        word: None,
+    }
 }
 
 #[test]
@@ -23,7 +42,8 @@ fn cycles_are_decimal(rt: HostRuntime) {
     asks(&rt, b"\tgo  to 0010 ", Command::GoTo(10));
     asks(&rt, b"step", Command::Step(1));
     asks(&rt, b"step 1000000000000", Command::Step(1_000_000_000_000));
-    asks(&rt, b"back 0", Command::Back { cut: 0, cycle: 0 });
+    asks_back(&rt, b"back 0", 0, false);
+    asks_back(&rt, b"back list 12", 12, true);
     refuses(&rt, b"back 1000000000001", CommandFault::BadNumber);
     refuses(&rt, b"go -1", CommandFault::BadNumber);
     refuses(&rt, b"go", CommandFault::Usage(CommandName::Go));
@@ -37,37 +57,37 @@ fn a_run_goes_until_a_place_a_write_or_a_cell(rt: HostRuntime) {
     asks_until(
         &rt,
         b"until 4071",
-        Breakpoint::Order(Location::Fixed(0o4071)),
+        Condition::Order(Location::Fixed(0o4071)),
         1_000_000,
     );
     asks_until(
         &rt,
         b"until 02,4071 within 9",
-        Breakpoint::Order(Location::Fixed(0o4071)),
+        Condition::Order(Location::Fixed(0o4071)),
         9,
     );
     asks_until(
         &rt,
         b"until E3,1400",
-        Breakpoint::Order(Location::Erasable(0o1400)),
+        Condition::Order(Location::Erasable(0o1400)),
         1_000_000,
     );
-    asks_until(&rt, b"until write 10 within 0", Breakpoint::Write(0o10), 0);
+    asks_until(&rt, b"until write 10 within 0", write_to(0o10), 0);
     asks_until(
         &rt,
         b"until cell E0,0100",
-        Breakpoint::Cell(0o100),
+        Condition::Cell(0o100),
         1_000_000,
     );
     asks_until(
         &rt,
         b"until cell E0,1500",
-        Breakpoint::Cell(0o100),
+        Condition::Cell(0o100),
         1_000_000,
     );
     refuses(&rt, b"until cell 4071", CommandFault::NotErasable);
     refuses(&rt, b"until 1400", CommandFault::BadPlace);
-    asks_until(&rt, b"until write 5", Breakpoint::Write(5), 1_000_000);
+    asks_until(&rt, b"until write 5", write_to(5), 1_000_000);
     refuses(&rt, b"until write 4", CommandFault::NoWrites);
     refuses(&rt, b"until write 1000", CommandFault::NoWrites);
     refuses(&rt, b"until write 8", CommandFault::NoWrites);
@@ -224,7 +244,7 @@ fn meant(rt: &impl Abort, names: &Option<SymbolTable>, line: &[u8], name: Meant)
 /// Checks that a line with symbols runs until the order at a location.
 fn goes_until(rt: &impl Abort, names: &Option<SymbolTable>, line: &[u8], place: u32) {
     let command = Command::Until {
-        what: Breakpoint::Order(Location::Fixed(place)),
+        what: Condition::Order(Location::Fixed(place)),
         within: 1_000_000,
     };
     reads(rt, names, line, Ok(Some(command)));

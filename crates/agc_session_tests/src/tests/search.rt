@@ -1,11 +1,11 @@
-//! Tests of searches back and runs forward to breakpoints, worked out by hand. The numbers are octal, except for cycles.
+//! Tests of searches back and runs forward to conditions, worked out by hand. The numbers are octal, except for cycles.
 ghost use Rattle.std.specs.Prelude.{◌<◌, ◌^◌, IfSome};
-ghost use Rattle.agc_session.specs.Breakpoint.{IsBreakpointInRange};
+ghost use Rattle.agc_session.specs.Condition.{IsConditionInRange};
 
 use super::{equal, equal_at, press, session_of};
 use agc_listing::Location;
 use agc_script::Key;
-use agc_session::{Breakpoint, Cancellation, SearchFault, Session};
+use agc_session::{Cancellation, Condition, SearchFault, Session};
 use agc_test_support::RELAY_WORD;
 use agc_word::Narrow;
 use std::process::Abort;
@@ -23,36 +23,36 @@ pub(super) static TURN: &str = "
 fn finds(
     rt: &(impl AllocGlobal + Abort),
     session: &Session,
-    breakpoint: Breakpoint,
+    condition: Condition,
     count: u64,
     wanted: Option<u64>,
 )
     requires some { 0 < count }
-    requires range { IsBreakpointInRange breakpoint }
+    requires range { IsConditionInRange condition }
 {
     let found = session
-        .last_hit(rt.alloc(), breakpoint, count)
+        .last_hit(rt.alloc(), condition, count)
         .ok()
         .expect(rt, "memory");
     equal_at(rt, count, found, wanted);
 }
 
-fn order(place: u32) -> Breakpoint
-    ensures { IsBreakpointInRange result }
+fn order(place: u32) -> Condition
+    ensures { IsConditionInRange result }
 {
-    Breakpoint::Order(Location::Fixed(place))
+    Condition::Order(Location::Fixed(place))
 }
 
-fn write_of(channel: Option<u16>, bits: Option<u16>) -> Breakpoint
+fn write_of(channel: Option<u16>, bits: Option<u16>) -> Condition
     requires { IfSome bits (λ bits. bits < 2 ^ 15) }
-    ensures { IsBreakpointInRange result }
+    ensures { IsConditionInRange result }
 {
     match bits {
-        Some(bits) => Breakpoint::Write {
+        Some(bits) => Condition::Write {
             channel,
             word: Some(Narrow::with_bits(bits)),
         },
-        None => Breakpoint::Write {
+        None => Condition::Write {
             channel,
             word: None,
         },
@@ -63,23 +63,23 @@ fn write_of(channel: Option<u16>, bits: Option<u16>) -> Breakpoint
 #[test]
 fn boundaries_are_found_back(rt: HostRuntime) {
     let mut session = session_of(&rt, TURN, "", 100);
-    finds(&rt, &session, Breakpoint::Boundary, 1, None);
+    finds(&rt, &session, Condition::Boundary, 1, None);
     session.go_to(20);
-    finds(&rt, &session, Breakpoint::Boundary, 1, Some(18));
-    finds(&rt, &session, Breakpoint::Boundary, 2, Some(17));
-    finds(&rt, &session, Breakpoint::Boundary, 4, Some(14));
-    finds(&rt, &session, Breakpoint::Boundary, 13, Some(0));
-    finds(&rt, &session, Breakpoint::Boundary, 14, None);
+    finds(&rt, &session, Condition::Boundary, 1, Some(18));
+    finds(&rt, &session, Condition::Boundary, 2, Some(17));
+    finds(&rt, &session, Condition::Boundary, 4, Some(14));
+    finds(&rt, &session, Condition::Boundary, 13, Some(0));
+    finds(&rt, &session, Condition::Boundary, 14, None);
     finds(&rt, &session, order(0o4001), 1, Some(14));
     finds(&rt, &session, order(0o4001), 2, Some(8));
     finds(&rt, &session, order(0o4001), 3, Some(2));
     finds(&rt, &session, order(0o4001), 4, None);
     finds(&rt, &session, order(0o4024), 1, None);
-    finds(&rt, &session, Breakpoint::Cell(0o100), 1, Some(18));
-    finds(&rt, &session, Breakpoint::Cell(0o100), 2, Some(12));
-    finds(&rt, &session, Breakpoint::Cell(0o100), 4, Some(0));
-    finds(&rt, &session, Breakpoint::Cell(0o100), 5, None);
-    finds(&rt, &session, Breakpoint::Cell(0o101), 1, None);
+    finds(&rt, &session, Condition::Cell(0o100), 1, Some(18));
+    finds(&rt, &session, Condition::Cell(0o100), 2, Some(12));
+    finds(&rt, &session, Condition::Cell(0o100), 4, Some(0));
+    finds(&rt, &session, Condition::Cell(0o100), 5, None);
+    finds(&rt, &session, Condition::Cell(0o101), 1, None);
     equal(&rt, session.machine().cycle(), 20);
 }
 
@@ -98,7 +98,7 @@ fn writes_are_found_back(rt: HostRuntime) {
     finds(&rt, &session, write_of(Some(0o10), Some(0)), 4, None);
     finds(&rt, &session, write_of(Some(0o11), None), 1, None);
     finds(&rt, &session, write_of(None, Some(1)), 1, None);
-    finds(&rt, &session, Breakpoint::Panel, 1, None);
+    finds(&rt, &session, Condition::Panel, 1, None);
 }
 
 /// A key at 20 takes no cycle, its interrupt begins at 20 too, RESUME at 23, and EXTEND at 25. The machine stops at 31,
@@ -108,25 +108,25 @@ fn a_key_is_found_back(rt: HostRuntime) {
     let mut session = session_of(&rt, TURN, "", 31);
     session.go_to(20);
     press(&rt, &mut session, Key::One, Ok(()));
-    finds(&rt, &session, Breakpoint::Boundary, 1, Some(20));
-    finds(&rt, &session, Breakpoint::Boundary, 2, Some(18));
-    finds(&rt, &session, Breakpoint::Interrupt(None), 1, None);
+    finds(&rt, &session, Condition::Boundary, 1, Some(20));
+    finds(&rt, &session, Condition::Boundary, 2, Some(18));
+    finds(&rt, &session, Condition::Interrupt(None), 1, None);
     session.go_to(100);
     session.step();
-    finds(&rt, &session, Breakpoint::Boundary, 1, Some(31));
-    finds(&rt, &session, Breakpoint::Boundary, 2, Some(29));
-    finds(&rt, &session, Breakpoint::Boundary, 7, Some(20));
-    finds(&rt, &session, Breakpoint::Boundary, 8, Some(20));
-    finds(&rt, &session, Breakpoint::Boundary, 9, Some(18));
-    finds(&rt, &session, Breakpoint::Interrupt(None), 1, Some(20));
-    finds(&rt, &session, Breakpoint::Interrupt(None), 2, None);
+    finds(&rt, &session, Condition::Boundary, 1, Some(31));
+    finds(&rt, &session, Condition::Boundary, 2, Some(29));
+    finds(&rt, &session, Condition::Boundary, 7, Some(20));
+    finds(&rt, &session, Condition::Boundary, 8, Some(20));
+    finds(&rt, &session, Condition::Boundary, 9, Some(18));
+    finds(&rt, &session, Condition::Interrupt(None), 1, Some(20));
+    finds(&rt, &session, Condition::Interrupt(None), 2, None);
     finds(&rt, &session, order(0o4024), 1, Some(23));
-    finds(&rt, &session, Breakpoint::Cell(0o100), 1, Some(29));
-    finds(&rt, &session, Breakpoint::Cell(0o100), 2, Some(18));
+    finds(&rt, &session, Condition::Cell(0o100), 1, Some(29));
+    finds(&rt, &session, Condition::Cell(0o100), 2, Some(18));
     let session = session.rewind_to(rt.alloc(), 20).ok().expect(&rt, "memory");
-    finds(&rt, &session, Breakpoint::Interrupt(None), 1, None);
-    finds(&rt, &session, Breakpoint::Boundary, 1, Some(18));
-    finds(&rt, &session, Breakpoint::Boundary, 2, Some(17));
+    finds(&rt, &session, Condition::Interrupt(None), 1, None);
+    finds(&rt, &session, Condition::Boundary, 1, Some(18));
+    finds(&rt, &session, Condition::Boundary, 2, Some(17));
 }
 
 /// Copies are made at 262,144 and 524,288. From 5 on each boundary takes one cycle, so the one with the number 400,000,
@@ -135,13 +135,13 @@ fn a_key_is_found_back(rt: HostRuntime) {
 fn stretches_are_searched_together(rt: HostRuntime) {
     let mut session = session_of(&rt, RELAY_WORD, "", 2_000_000);
     session.go_to(600_000);
-    finds(&rt, &session, Breakpoint::Boundary, 75_712, Some(524_288));
-    finds(&rt, &session, Breakpoint::Boundary, 75_713, Some(524_287));
-    finds(&rt, &session, Breakpoint::Boundary, 400_000, Some(200_000));
-    finds(&rt, &session, Breakpoint::Boundary, 599_996, Some(3));
-    finds(&rt, &session, Breakpoint::Boundary, 599_999, None);
-    finds(&rt, &session, Breakpoint::Panel, 1, Some(3));
-    finds(&rt, &session, Breakpoint::Panel, 2, None);
+    finds(&rt, &session, Condition::Boundary, 75_712, Some(524_288));
+    finds(&rt, &session, Condition::Boundary, 75_713, Some(524_287));
+    finds(&rt, &session, Condition::Boundary, 400_000, Some(200_000));
+    finds(&rt, &session, Condition::Boundary, 599_996, Some(3));
+    finds(&rt, &session, Condition::Boundary, 599_999, None);
+    finds(&rt, &session, Condition::Panel, 1, Some(3));
+    finds(&rt, &session, Condition::Panel, 2, None);
     finds(&rt, &session, order(0o4001), 1, Some(2));
 }
 
@@ -167,8 +167,8 @@ fn misses_unless(
     wanted: Result<Option<u64>, SearchFault>,
 ) {
     let mut cancellation = CancelAfter { left };
-    let breakpoint = Breakpoint::Interrupt(None);
-    let found = session.last_hit_unless(rt.alloc(), breakpoint, 1, &mut cancellation);
+    let condition = Condition::Interrupt(None);
+    let found = session.last_hit_unless(rt.alloc(), condition, 1, &mut cancellation);
     equal_at(rt, left, found, wanted);
 }
 
@@ -183,22 +183,22 @@ fn searches_are_cancelled(rt: HostRuntime) {
     session.go_to(600_000);
     misses_unless(&rt, &session, 2, Err(SearchFault::Cancelled));
     misses_unless(&rt, &session, 3, Ok(None));
-    finds(&rt, &session, Breakpoint::Interrupt(None), 1, None);
-    finds(&rt, &session, Breakpoint::Panel, 1, Some(3));
+    finds(&rt, &session, Condition::Interrupt(None), 1, None);
+    finds(&rt, &session, Condition::Panel, 1, Some(3));
 }
 
-/// Checks where a run forward to a breakpoint ends, and whether it hit.
+/// Checks where a run forward to a condition ends, and whether it hit.
 fn runs(
     rt: &impl Abort,
     session: &mut Session,
-    breakpoint: Breakpoint,
+    condition: Condition,
     before: u64,
     hit: bool,
     cycle: u64,
 )
-    requires { IsBreakpointInRange breakpoint }
+    requires { IsConditionInRange condition }
 {
-    equal_at(rt, cycle, session.go_until(breakpoint, before), hit);
+    equal_at(rt, cycle, session.go_until(condition, before), hit);
     equal(rt, session.machine().cycle(), cycle);
 }
 
@@ -210,18 +210,11 @@ fn runs_end_at_hits(rt: HostRuntime) {
     runs(&rt, &mut session, order(0o4001), 40, true, 8);
     runs(&rt, &mut session, order(0o4001), 12, false, 12);
     runs(&rt, &mut session, order(0o4001), 12, false, 12);
-    runs(&rt, &mut session, Breakpoint::Cell(0o100), 40, true, 14);
+    runs(&rt, &mut session, Condition::Cell(0o100), 40, true, 14);
     runs(&rt, &mut session, write_of(Some(0o10), None), 40, true, 17);
-    runs(&rt, &mut session, Breakpoint::Boundary, 40, true, 18);
-    runs(
-        &rt,
-        &mut session,
-        Breakpoint::Interrupt(None),
-        20,
-        false,
-        20,
-    );
+    runs(&rt, &mut session, Condition::Boundary, 40, true, 18);
+    runs(&rt, &mut session, Condition::Interrupt(None), 20, false, 20);
     press(&rt, &mut session, Key::One, Ok(()));
-    runs(&rt, &mut session, Breakpoint::Interrupt(None), 40, true, 23);
-    runs(&rt, &mut session, Breakpoint::Panel, 100, false, 40);
+    runs(&rt, &mut session, Condition::Interrupt(None), 40, true, 23);
+    runs(&rt, &mut session, Condition::Panel, 100, false, 40);
 }

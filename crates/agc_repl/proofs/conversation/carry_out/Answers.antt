@@ -11,7 +11,7 @@ returns-in_default g c =
       reported =
           when_ok c.show.result c.show.ensures
           (λ parsed. reports_same _ _ _ _ _
-          (done_shown c.args.names.now c.args.command c.args.repl.now c.in_default.not-Go c.in_default.not-GoTo c.in_default.not-Step c.in_default.not-Until c.in_default.not-Continue)
+          (done_shown c.args.names.now c.args.command c.args.repl.now c.in_default.not-Go c.in_default.not-GoTo c.in_default.not-Step c.in_default.not-Until c.in_default.not-Continue c.in_default.not-Ahead)
           (reports_waiting _ _ (g.W.Write.contents c.args.output.now) (string_bytes c.args.text.now) (string_bytes c.show.new.text) refl parsed));
       left = changes_nothing c.args.command c.args.repl.now c.requires.plain c.in_default.not-Go c.in_default.not-GoTo c.in_default.not-Step c.in_default.not-Until c.in_default.not-Continue;
       begins = λ e. nothing_begun _ (g.W.Write.contents c.args.output.now);

@@ -1,11 +1,11 @@
-use Rattle.agc_session.specs.declared.breakpoint.Breakpoint.TheVariants as breakpoint
+use Rattle.agc_session.specs.declared.condition.Condition.TheVariants as condition
 use Rattle.std.proofs.Common.{sym}
 use Rattle.agc_session.proofs.Passing.{no_order, one_hit, order_meets}
 use Rattle.agc_session.proofs.by_orders.pass_to_order.Goals as goal
 
 pub returns-then-is_order_next : goal.returns-then-is_order_next
 returns-then-is_order_next c =
-    one_hit (breakpoint.Order c.args.place) c.args.end c.args.panel.now c.pass.new.panel c.args.machine.now c.pass.new.machine c.pass.result
+    one_hit (condition.Order c.args.place) c.args.end c.args.panel.now c.pass.new.panel c.args.machine.now c.pass.new.machine c.pass.result
     c.requires.runs c.pass.ensures.now c.pass.ensures.panel c.pass.ensures.began
     (order_meets c.args.place c.args.panel.now c.args.machine.now (sym c.if-is_order_next.ensures))
 

@@ -1,4 +1,4 @@
-use Rattle.agc_session.specs.declared.breakpoint.Breakpoint.TheVariants as breakpoint
+use Rattle.agc_session.specs.declared.condition.Condition.TheVariants as condition
 use Rattle.agc_session.proofs.Advancing.{boundary_hits}
 use Rattle.agc_session.proofs.Passing.{one_hit}
 use Rattle.agc_session.proofs.search.advance.Goals as goal
@@ -6,7 +6,7 @@ use Rattle.agc_session.proofs.search.advance.Goals as goal
 pub returns-in-Boundary : goal.returns-in-Boundary
 returns-in-Boundary c =
     rw c.in-Boundary.is
-    (one_hit breakpoint.Boundary c.args.end c.args.panel.now c.pass.new.panel c.args.machine.now c.pass.new.machine c.pass.result c.requires.runs
+    (one_hit condition.Boundary c.args.end c.args.panel.now c.pass.new.panel c.args.machine.now c.pass.new.machine c.pass.result c.requires.runs
     c.pass.ensures.now c.pass.ensures.panel c.pass.ensures.began (boundary_hits c.args.panel.now c.args.machine.now))
 
 pub returns-in-Order : goal.returns-in-Order

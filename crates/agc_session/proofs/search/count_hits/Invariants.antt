@@ -5,7 +5,7 @@ use Rattle.agc_session.proofs.search.count_hits.Given as goal
 
 abbrev pub invariant-loop-end : goal.invariant-loop-end
 invariant-loop-end g l = record {
-  counting : (n : ℕ) → IsAt l.end (after n l.initial.machine) → IsCounting l.breakpoint n l.initial.panel l.panel l.initial.machine l.machine l.hits;
+  counting : (n : ℕ) → IsAt l.end (after n l.initial.machine) → IsCounting l.condition n l.initial.panel l.panel l.initial.machine l.machine l.hits;
   few : l.hits.number < l.most;
 }
 

@@ -9,7 +9,7 @@ use Rattle.agc_session.proofs.search.search_back.Goals as goal
 
 pub loop-place-init : goal.loop-place-init
 loop-place-init g c = record {
-  searching = λ n e. searching_starts c.args.breakpoint.now c.args.count n _ c.args.now.now _ c.requires.some c.of-end.ensures e;
+  searching = λ n e. searching_starts c.args.condition.now c.args.count n _ c.args.now.now _ c.requires.some c.of-end.ensures e;
   some = c.requires.some;
   bound = omega (arith, c.len-place.ensures);
 }
@@ -21,9 +21,9 @@ returns-in-At g c = λ n e.
     let copy = c.index-copy.result.now in
     let right : IsCheckpoint words limit copy =
     copy_at words limit (c.loop-place.place - 1) c.args.checkpoints.now.copies.items copy c.requires.right (omega (arith, c.loop-place.invariant.bound, c.loop-place-test.true)) c.index-copy.ensures in
-    copy_found c.args.breakpoint.now c.args.count c.loop-place.wanted limit words c.args.script.now c.args.now.now c.loop-place.end c.in-At.cycle copy right
+    copy_found c.args.condition.now c.args.count c.loop-place.wanted limit words c.args.script.now c.args.now.now c.loop-place.end c.in-At.cycle copy right
     (c.is_on_run_before.ensures.fits c.if-is_on_run_before.true) (c.is_on_run_before.ensures.before c.if-is_on_run_before.true)
-    (subst (λ (f : Found). (n : ℕ) → IsAt c.loop-place.end (after n (resumed c.args.script.now copy)) → HasSearched c.args.breakpoint.now c.loop-place.wanted n copy.panel (resumed c.args.script.now copy) f)
+    (subst (λ (f : Found). (n : ℕ) → IsAt c.loop-place.end (after n (resumed c.args.script.now copy)) → HasSearched c.args.condition.now c.loop-place.wanted n copy.panel (resumed c.args.script.now copy) f)
     c.in-At.is c.in_ok-cycle.ensures.searched)
     (c.loop-place.invariant.searching n e)
 
@@ -37,9 +37,9 @@ loop-place-preserved-in-Fewer g c =
     let fewer : c.in-Fewer.number < c.loop-place.wanted = subst (λ (f : Found). IsFewerThan c.loop-place.wanted f) c.in-Fewer.is c.in_ok-cycle.ensures.fewer in
     record {
       searching = λ n e.
-          copy_searched c.args.breakpoint.now c.args.count c.loop-place.wanted limit words c.args.script.now c.args.now.now c.loop-place.end c.begin_of-end.result c.in-Fewer.number copy right
+          copy_searched c.args.condition.now c.args.count c.loop-place.wanted limit words c.args.script.now c.args.now.now c.loop-place.end c.begin_of-end.result c.in-Fewer.number copy right
           (c.is_on_run_before.ensures.fits c.if-is_on_run_before.true) (c.is_on_run_before.ensures.before c.if-is_on_run_before.true)
-          (subst (λ (f : Found). (n : ℕ) → IsAt c.loop-place.end (after n (resumed c.args.script.now copy)) → HasSearched c.args.breakpoint.now c.loop-place.wanted n copy.panel (resumed c.args.script.now copy) f)
+          (subst (λ (f : Found). (n : ℕ) → IsAt c.loop-place.end (after n (resumed c.args.script.now copy)) → HasSearched c.args.condition.now c.loop-place.wanted n copy.panel (resumed c.args.script.now copy) f)
           c.in-Fewer.is c.in_ok-cycle.ensures.searched)
           c.begin_of-end.ensures (c.loop-place.invariant.searching n e);
       some = omega (arith, fewer);
@@ -50,9 +50,9 @@ pub returns-in-At-2 : goal.returns-in-At-2
 returns-in-At-2 g c = λ n e.
     let copy = c.in_ok-start.start in
     let script = c.args.script.now in
-    start_found c.args.breakpoint.now c.args.count c.loop-place.wanted script c.args.now.now c.loop-place.end c.in-At-2.cycle copy
+    start_found c.args.condition.now c.args.count c.loop-place.wanted script c.args.now.now c.loop-place.end c.in-At-2.cycle copy
     (rw c.in_ok-start.ensures.ok_part at (c.start_of.ensures.start script)) (rw c.in_ok-start.ensures.ok_part at c.start_of.ensures.panel)
-    (subst (λ (f : Found). (n : ℕ) → IsAt c.loop-place.end (after n (resumed script copy)) → HasSearched c.args.breakpoint.now c.loop-place.wanted n copy.panel (resumed script copy) f)
+    (subst (λ (f : Found). (n : ℕ) → IsAt c.loop-place.end (after n (resumed script copy)) → HasSearched c.args.condition.now c.loop-place.wanted n copy.panel (resumed script copy) f)
     c.in-At-2.is c.in_ok-cycle-2.ensures.searched)
     (c.loop-place.invariant.searching n e)
 
@@ -60,8 +60,8 @@ pub returns : goal.returns
 returns g c = λ n e.
     let copy = c.in_ok-start.start in
     let script = c.args.script.now in
-    start_fewer c.args.breakpoint.now c.args.count c.loop-place.wanted script c.args.now.now c.loop-place.end c.in-Fewer-2.field-0 copy
+    start_fewer c.args.condition.now c.args.count c.loop-place.wanted script c.args.now.now c.loop-place.end c.in-Fewer-2.field-0 copy
     (rw c.in_ok-start.ensures.ok_part at (c.start_of.ensures.start script)) (rw c.in_ok-start.ensures.ok_part at c.start_of.ensures.panel)
-    (subst (λ (f : Found). (n : ℕ) → IsAt c.loop-place.end (after n (resumed script copy)) → HasSearched c.args.breakpoint.now c.loop-place.wanted n copy.panel (resumed script copy) f)
+    (subst (λ (f : Found). (n : ℕ) → IsAt c.loop-place.end (after n (resumed script copy)) → HasSearched c.args.condition.now c.loop-place.wanted n copy.panel (resumed script copy) f)
     c.in-Fewer-2.is c.in_ok-cycle-2.ensures.searched)
     (c.loop-place.invariant.searching n e)

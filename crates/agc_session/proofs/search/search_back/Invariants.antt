@@ -6,7 +6,7 @@ use Rattle.agc_session.proofs.search.search_back.Given as goal
 
 abbrev pub invariant-loop-place : goal.invariant-loop-place
 invariant-loop-place g l = record {
-  searching : (n : ℕ) → after n (start_with l.script l.now) ≡ l.now → IsSearching l.breakpoint l.count l.wanted (start_with l.script l.now) l.now l.end;
+  searching : (n : ℕ) → after n (start_with l.script l.now) ≡ l.now → IsSearching l.condition l.count l.wanted (start_with l.script l.now) l.now l.end;
   some : 0 < l.wanted;
   bound : l.place ≤ length l.checkpoints.copies.items;
 }

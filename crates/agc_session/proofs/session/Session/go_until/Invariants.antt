@@ -2,8 +2,8 @@ use Rattle.agc_session.specs.Search.{span}
 use Rattle.agc_session.proofs.RunTo.{RunsTo}
 use Rattle.agc_session.proofs.session.Session.go_until.Given as goal
 
-abbrev pub invariant-loop-breakpoint : goal.invariant-loop-breakpoint
-invariant-loop-breakpoint l = RunsTo l.breakpoint l.cycle l.initial.self l.self
+abbrev pub invariant-loop-condition : goal.invariant-loop-condition
+invariant-loop-condition l = RunsTo l.condition l.cycle l.initial.self l.self
 
-abbrev pub decreases-loop-breakpoint : goal.decreases-loop-breakpoint
-decreases-loop-breakpoint l = span l.self.now
+abbrev pub decreases-loop-condition : goal.decreases-loop-condition
+decreases-loop-condition l = span l.self.now

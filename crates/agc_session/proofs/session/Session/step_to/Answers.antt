@@ -3,7 +3,7 @@ use Rattle.agc_store.specs.Memory.{Memory}
 use Rattle.std.specs.Prelude.{not}
 use Rattle.agc_machine.specs.State.{State}
 use Rattle.agc_machine.specs.Boundary.{upcoming_of}
-use Rattle.agc_session.specs.Breakpoint.{is_service_of, same_word, word_at}
+use Rattle.agc_session.specs.Condition.{is_service_of, same_word, word_at}
 use Rattle.agc_session.proofs.RunTo.{ends_boundary, ends_cell, ends_interrupt, ends_on_write}
 use Rattle.agc_session.proofs.session.Session.step_to.Goals as goal
 
@@ -20,8 +20,8 @@ returns-in-Cell-clause-ends c =
 
 pub returns-in-Write-clause-ends : goal.returns-in-Write-clause-ends
 returns-in-Write-clause-ends c =
-    ends_on_write c.args.breakpoint.now c.args.self.now c.step-stepped.new.self c.step-stepped.result c.panel.result.now c.is_hit_by_write.result c.in-Write.is
-    c.step-stepped.ensures.gone c.panel.ensures c.is_hit_by_write.ensures
+    ends_on_write c.args.condition.now c.args.self.now c.step-stepped.new.self c.step-stepped.result c.panel.result.now c.is_hit_by_write.result c.in-Write.is
+    c.step-stepped.ensures.gone c.panel.ensures c.is_hit_by_write.ensures.meets
 
 pub returns-in-Interrupt-clause-ends : goal.returns-in-Interrupt-clause-ends
 returns-in-Interrupt-clause-ends c =

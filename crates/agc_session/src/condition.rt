@@ -1,0 +1,291 @@
+//! Conditions: what a run forward or a search back stops at, and whether a boundary hits one.
+ghost use Rattle.std.specs.Prelude.{◌≡◌, ◌↔◌, ◌<◌, IsTrue, find, not, true};
+ghost use Rattle.agc_machine.specs.Boundary.{boundary, upcoming_of};
+ghost use Rattle.agc_machine.specs.State.{State};
+ghost use Rattle.agc_session.specs.Search.{IsOnWrite};
+ghost use Rattle.agc_session.specs.Session.{shown_after};
+ghost use Rattle.agc_session.specs.Condition.{
+  AreArmedInRange,
+  IsConditionInRange,
+  Meets,
+  armed_in,
+  first_hit,
+  is_channel_of,
+  is_hit,
+  is_met_by,
+  is_on_write,
+  is_order_at,
+  is_other_word,
+  is_service_of,
+  is_value_of,
+  is_wanted,
+  needs_each,
+  place_number,
+  same_location,
+  same_word,
+  window_address,
+  word_at,
+};
+ghost use Rattle.agc_store.specs.Places.{erasable_cells};
+
+use agc_listing::{Location, location_at};
+use agc_machine::{Machine, Stepped, Upcoming};
+use agc_panel::{Panel, PanelLine};
+use agc_processor::Rupt;
+use agc_store::Store;
+use agc_store::place::ERASABLE_BANK_SIZE;
+use agc_word::Narrow;
+
+/// What a run, forward or backward, stops at.
+#[derive(Clone, Copy, Debug, PartialEq, Eq)]
+pub enum Condition {
+    /// Every boundary.
+    Boundary,
+    /// The order at this place.
+    Order(Location),
+    /// A change of this cell, with overflow corrected. Its number is 400 octal times its bank, plus its offset.
+    Cell(u16),
+    /// A channel write: to this channel, or to any, and of this word, or of any.
+    Write {
+        channel: Option<u16>,
+        word: Option<Narrow>,
+    },
+    /// The start of the service of this interrupt, or of any.
+    Interrupt(Option<Rupt>),
+    /// A change of the panel.
+    Panel,
+    /// A channel write after which the panel shows this line, and before which it did not.
+    Shows(PanelLine),
+}
+
+/// A numbered condition that a run forward ends at.
+#[derive(Clone, Copy, Debug, PartialEq, Eq)]
+pub struct Armed {
+    pub number: u64,
+    pub condition: Condition,
+    /// For a cell, its word when the condition was armed.
+    pub before: Option<Narrow>,
+}
+
+impl Armed {
+    /// Arms a condition in the machine's present state.
+    pub fn new(machine: &Machine, number: u64, condition: Condition) -> Armed
+        requires { IsConditionInRange condition }
+        ensures { result ≡ armed_in machine.now number condition }
+    {
+        let before = match condition {
+            Condition::Cell(cell) => Some(word_of(machine.store(), cell)),
+            _ => None,
+        };
+        Armed {
+            number,
+            condition,
+            before,
+        }
+    }
+
+    /// Returns whether the last boundary hit the condition, by the panel before and after it and the machine's present
+    /// state: just before an order or the service of an interrupt, otherwise just after the boundary.
+    #[tactic(auto, unfolding(crate::specs::Condition::is_hit))]
+    fn is_hit(&self, stepped: &Stepped, before: &Panel, now: &Panel, machine: &Machine) -> bool
+        requires range { IsConditionInRange self.now.condition }
+        requires shown { now.now ≡ shown_after stepped.now before.now }
+        ensures { result ≡ is_hit self.now before.now machine.now stepped.now }
+    {
+        match &self.condition {
+            Condition::Boundary => true,
+            Condition::Order(place) => is_order_next(machine, *place),
+            Condition::Cell(cell) => is_other_word(machine.store(), *cell, &self.before),
+            Condition::Interrupt(which) => is_service_next(machine, *which),
+            Condition::Write { .. } | Condition::Panel | Condition::Shows(_) => {
+                is_hit_by_write(&self.condition, stepped, before, now)
+            }
+        }
+    }
+}
+
+/// Returns the first condition that the last boundary hit.
+pub(crate) fn first_hit(
+    armed: &[Armed],
+    stepped: &Stepped,
+    before: &Panel,
+    now: &Panel,
+    machine: &Machine,
+) -> Option<Armed>
+    requires range { AreArmedInRange armed.now }
+    requires shown { now.now ≡ shown_after stepped.now before.now }
+    ensures { result ≡ first_hit armed.now before.now machine.now stepped.now }
+{
+    for one in armed {
+        if one.is_hit(stepped, before, now, machine) {
+            return Some(*one);
+        }
+    }
+    None
+}
+
+/// Returns whether a run to the first of some conditions has to look at each boundary.
+#[tactic(auto, unfolding(crate::specs::Condition::needs_each))]
+pub(crate) fn needs_each(armed: &[Armed]) -> bool
+    ensures { result ≡ needs_each armed.now }
+{
+    armed.iter().any(|one| !is_on_write(&one.condition))
+}
+
+/// Returns whether only a channel write can hit a condition.
+fn is_on_write(condition: &Condition) -> bool
+    ensures { result ≡ is_on_write condition.now }
+{
+    match condition {
+        Condition::Write { .. } => true,
+        Condition::Panel => true,
+        Condition::Shows(_) => true,
+        _ => false,
+    }
+}
+
+/// Returns whether a boundary with this answer hits a condition that only a write can hit.
+#[tactic(auto, unfolding(crate::specs::Condition::Meets))]
+pub(crate) fn is_hit_by_write(
+    condition: &Condition,
+    stepped: &Stepped,
+    before: &Panel,
+    now: &Panel,
+) -> bool
+    requires on { IsOnWrite condition.now }
+    requires shown { now.now ≡ shown_after stepped.now before.now }
+    ensures meets { (s : State) → (boundary None s).1 ≡ stepped.now → (IsTrue result ↔ Meets condition.now before.now s) }
+    ensures value { result ≡ is_met_by condition.now before.now stepped.now }
+{
+    let Stepped::Wrote(write) = stepped else {
+        return false;
+    };
+    match condition {
+        Condition::Write { channel, word } => {
+            is_channel_of(*channel, write.channel) && is_value_of(word, write.value)
+        }
+        Condition::Panel => !before.shows_same(now),
+        Condition::Shows(line) => !before.face().shows(line) && now.face().shows(line),
+        _ => false,
+    }
+}
+
+/// Returns whether the order at a place comes next. Z rules out nearly all orders at once.
+#[inline(always)]
+pub(crate) fn is_order_next(machine: &Machine, place: Location) -> bool
+    ensures { result ≡ is_order_at place (upcoming_of machine.now) }
+{
+    may_come_next(machine, place) && is_order_in_hand(machine, place)
+}
+
+/// Returns whether Z is one past an address of a place: its own, or the one in the window of its bank.
+#[inline(always)]
+fn may_come_next(machine: &Machine, place: Location) -> bool
+    ensures { is_order_at place (upcoming_of machine.now) ≡ true → result ≡ true }
+{
+    let address = u32::from(machine.store().z().previous().bits());
+    address == place_number(place) || address == window_address(place)
+}
+
+/// Returns the address of a location in the window of its bank.
+#[inline(always)]
+pub(crate) fn window_address(place: Location) -> u32
+    ensures { result ≡ window_address place }
+{
+    match place {
+        Location::Fixed(number) => 0o2000 + number % 0o2000,
+        Location::Erasable(number) => 0o1400 + number % 0o400,
+    }
+}
+
+/// Returns the number of a location in its part of the memory.
+#[inline(always)]
+pub(crate) fn place_number(place: Location) -> u32
+    ensures { result ≡ place_number place }
+{
+    match place {
+        Location::Fixed(number) => number,
+        Location::Erasable(number) => number,
+    }
+}
+
+/// Returns whether the order at a place comes next.
+fn is_order_in_hand(machine: &Machine, place: Location) -> bool
+    ensures { result ≡ is_order_at place (upcoming_of machine.now) }
+{
+    match machine.upcoming() {
+        Upcoming::Order(order) => is_at(location_at(order.bank, order.address), place),
+        _ => false,
+    }
+}
+
+/// Returns whether the service of this interrupt, or of any, comes next.
+pub(crate) fn is_service_next(machine: &Machine, which: Option<Rupt>) -> bool
+    ensures { result ≡ is_service_of which (upcoming_of machine.now) }
+{
+    match machine.upcoming() {
+        Upcoming::Interrupt(rupt) => is_wanted(which, rupt),
+        _ => false,
+    }
+}
+
+fn is_wanted(which: Option<Rupt>, rupt: Rupt) -> bool
+    ensures { result ≡ is_wanted which rupt }
+{
+    match which {
+        Some(which) => rupt.number() == which.number(),
+        None => true,
+    }
+}
+
+fn is_channel_of(wanted: Option<u16>, channel: u16) -> bool
+    ensures { result ≡ is_channel_of wanted channel }
+{
+    match wanted {
+        Some(wanted) => channel == wanted,
+        None => true,
+    }
+}
+
+fn is_value_of(wanted: &Option<Narrow>, value: Narrow) -> bool
+    ensures { result ≡ is_value_of wanted.now value }
+{
+    match wanted {
+        Some(wanted) => value == *wanted,
+        None => true,
+    }
+}
+
+/// Returns whether two places are the same.
+fn is_at(here: Location, there: Location) -> bool
+    ensures { result ≡ same_location here there }
+{
+    here == there
+}
+
+/// Returns whether a cell has another word than before.
+pub(crate) fn has_changed(store: &Store, cell: u16, before: Narrow) -> bool
+    requires { cell < erasable_cells }
+    ensures { result ≡ not (same_word (word_at cell store.now) before) }
+{
+    word_of(store, cell) != before
+}
+
+/// Returns whether a cell has another word than before, if that is known.
+fn is_other_word(store: &Store, cell: u16, before: &Option<Narrow>) -> bool
+    requires { cell < erasable_cells }
+    ensures { result ≡ is_other_word cell before.now store.now }
+{
+    match before {
+        Some(before) => has_changed(store, cell, *before),
+        None => false,
+    }
+}
+
+/// Returns the word of a cell by its number.
+pub(crate) fn word_of(store: &Store, cell: u16) -> Narrow
+    requires { cell < erasable_cells }
+    ensures { result ≡ word_at cell store.now }
+{
+    store.cell((cell / ERASABLE_BANK_SIZE) as u8, cell % ERASABLE_BANK_SIZE)
+}
