@@ -3,4 +3,3 @@ pub mod Whole
 pub mod Pairs
 pub mod Status
 pub mod FilmedRuns
-pub mod CountedRuns

@@ -3,6 +3,7 @@ use Rattle.std.proofs.Common.{◌≡◌, ◌≢◌, ◌≤◌, ℕ, List, length
 use Rattle.std.specs.Prelude.{Option, None, Some, IfSome, Err}
 use Rattle.std.specs.Io.KnownBytes.{Consumes, IsAtEnd}
 use Rattle.agc_store.specs.declared.rope_file.RopeForm.{RopeForm}
+use Rattle.agc_asm.specs.FaultText.{later_fault}
 use Rattle.agc_asm.specs.Source.{source_in}
 use Rattle.agc_asm.specs.declared.fault.AssemblyFault.{AssemblyFault}
 use Rattle.agc_asm.specs.declared.fault.AssemblyFault.TheVariants as source
@@ -15,10 +16,12 @@ use Rattle.agc_analysis.specs.Checked.{AreKeysChecked, IsChecked, IsCheckedOf, I
 
 -- a text that was read and does not assemble
 pub weave_refused : (before after : Option (List ℕ)) (text : List ℕ) (t : AnalysisFault) → Consumes before after text → IsAtEnd after → length text ≤ 16777216
-    → (fault : AssemblyFault) × (t ≡ analysis.Text fault) × (fault ≢ source.Memory → source_in text ≡ Err fault) → IsWeaveRefused before t
+    → (fault : AssemblyFault) × (t ≡ analysis.Text fault) × (fault ≢ source.Memory → source_in text ≡ Err (later_fault fault)) → IsWeaveRefused before t
 weave_refused before after text t c end few (source.Memory, is, named) = rw is tt
 weave_refused before after text t c end few (source.Line n why, is, named) =
     rw is (of_all before after text (λ all. IsFaulty all (source.Line n why)) c end (record { short = few; fault = named (λ h. cc) }))
+weave_refused before after text t c end few (source.Overlap n earlier, is, named) =
+    rw is (of_all before after text (λ all. IsFaulty all (later_fault (source.Overlap n earlier))) c end (record { short = few; fault = named (λ h. cc) }))
 
 -- a report on the bytes of two files
 pub checked : (form : RopeForm) (rope rope_left script script_left : Option (List ℕ)) (rope_read script_read : List ℕ) (report : Report)

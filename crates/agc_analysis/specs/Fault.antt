@@ -12,7 +12,7 @@ use Rattle.agc_script.specs.declared.fault.FaultKind.{FaultKind}
 use Rattle.agc_script.specs.declared.fault.FaultKind.TheVariants as kind
 use Rattle.agc_panel.specs.declared.watch_spec.WatchFault.{WatchFault}
 use Rattle.agc_panel.specs.declared.watch_spec.WatchFault.TheVariants as watch
-use Rattle.agc_asm.specs.FaultText.{fault_text}
+use Rattle.agc_asm.specs.FaultText.{fault_text, overlap_text}
 use Rattle.agc_asm.specs.declared.fault.AssemblyFault.{AssemblyFault}
 use Rattle.agc_asm.specs.declared.fault.AssemblyFault.TheVariants as source
 use Rattle.agc_analysis.specs.declared.fault.AnalysisFault.{AnalysisFault}
@@ -20,11 +20,13 @@ use Rattle.agc_analysis.specs.declared.fault.AnalysisFault.TheVariants as analys
 
 abbrev pub weave_text : AssemblyFault → List ℕ
 weave_text (source.Line n why) = codes "text line " ++ decimal n ++ codes ": " ++ fault_text why
+weave_text (source.Overlap n earlier) = codes "text line " ++ decimal n ++ codes ": " ++ overlap_text earlier
 weave_text source.Memory = codes "memory"
 
 -- the same of the second text of two
 abbrev pub other_weave_text : AssemblyFault → List ℕ
 other_weave_text (source.Line n why) = codes "other text line " ++ decimal n ++ codes ": " ++ fault_text why
+other_weave_text (source.Overlap n earlier) = codes "other text line " ++ decimal n ++ codes ": " ++ overlap_text earlier
 other_weave_text source.Memory = codes "memory"
 
 -- what to do about a fault that `agc` reports by its name alone
@@ -61,6 +63,15 @@ error_text analysis.BadBankSpec = codes "no such bank: --bank is one or two octa
 error_text (analysis.Unnamed r) = names_refusal_text r
 error_text analysis.NoParity =
     codes "no parity bit is 1, as in the classic form; --form parity repairs it nevertheless"
+error_text analysis.OtherLayout =
+    codes "more than one word in ten has wrong parity: the file has another layout, or is no rope; agc-study check names the layout"
+error_text analysis.PastLastBank =
+    codes "the file is too long for --first-bank: its last word is past bank 43"
+error_text (analysis.Undecided count) =
+    codes "words that nothing decides: " ++ decimal count
+    ++ codes "; --accept writes the rope all the same"
+error_text analysis.EmptyBank =
+    codes "a bank of --sum has only words +0, and no last word; agc-study sums prints the others"
 
 -- the line of an error
 abbrev pub error_line : AnalysisFault → List ℕ

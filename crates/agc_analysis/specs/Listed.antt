@@ -13,6 +13,7 @@ use Rattle.agc_listing.specs.Laws.{AreRopeWords}
 use Rattle.agc_listing.specs.List.{rope_text}
 use Rattle.agc_listing.specs.Order.{order_text}
 use Rattle.agc_asm.specs.Disassemble.{rope_source}
+use Rattle.agc_asm.specs.FaultText.{later_fault}
 use Rattle.agc_asm.specs.Laws.{WeavesTo}
 use Rattle.agc_asm.specs.MnemonicCheck.{is_extracode, misnamed_in, mnemonic_of}
 use Rattle.agc_asm.specs.Source.{IsSourceWoven, source_in}
@@ -124,4 +125,6 @@ IsWeaveRefused known analysis.CannotReadText = Unit {0}
 IsWeaveRefused known (analysis.Text source.Memory) = Unit {0}
 IsWeaveRefused known (analysis.Text (source.Line n why)) =
     IfSome known (λ text. IsFaulty text (source.Line n why))
+IsWeaveRefused known (analysis.Text (source.Overlap n earlier)) =
+    IfSome known (λ text. IsFaulty text (later_fault (source.Overlap n earlier)))
 IsWeaveRefused known t = ⊥

@@ -9,8 +9,9 @@ use crate::cmd_compare::run_compare;
 use crate::cmd_film::run_film;
 use crate::cmd_jobs::run_jobs;
 use crate::cmd_list::run_list;
+use crate::cmd_merge::run_merge;
 use crate::cmd_profile::run_profile;
-use crate::cmd_restore::{run_convert, run_patch, run_repair};
+use crate::cmd_restore::{run_convert, run_patch, run_repair, run_sums};
 use crate::cmd_trace::run_trace;
 use crate::cmd_weave::run_weave;
 use crate::cmd_words::run_words;
@@ -37,6 +38,8 @@ pub fn last_cycle(args: &Result<Args, ArgsFault>) -> u64 {
             | Args::Convert(_)
             | Args::Repair(_)
             | Args::Patch(_)
+            | Args::Sums(_)
+            | Args::Merge(_)
             | Args::Words(_),
         )
         | Err(_) => 0,
@@ -101,6 +104,8 @@ where
         Args::Convert(args) => run_convert(rt, args, io),
         Args::Repair(args) => run_repair(rt, args, io),
         Args::Patch(args) => run_patch(rt, args, io),
+        Args::Sums(args) => run_sums(rt, args, io),
+        Args::Merge(args) => run_merge(rt, args, io),
         Args::Words(args) => run_words(rt, args, io),
     }
 }

@@ -7,8 +7,9 @@ ghost use Rattle.agc_analysis.specs.Checked.{IsWithMore};
 ghost use Rattle.agc_analysis.specs.declared.fault.AnalysisFault.TheVariants as analysis;
 
 use crate::fault::AnalysisFault;
-use agc_asm::{check_listing, erase_remarks};
-use agc_check::{check, check_keys, check_rope, push_findings};
+use crate::rope_bytes::read_banks;
+use agc_asm::{check_listing, erase_remarks, line_remarks};
+use agc_check::{check, check_keys, check_rope, may_be_modules, push_findings};
 use agc_io::{KEY_BYTES, ROPE_BYTES, ReadError, TEXT_BYTES, read_limited};
 use agc_listing::Report;
 use agc_load::LoadFault;
@@ -52,8 +53,13 @@ pub fn check_files<R: Read>(
 pub(crate) fn check_rope_file<R: Read>(
     alloc: Global,
     form: RopeForm,
+    first_bank: Option<u8>,
     rope: &mut R,
 ) -> Result<Report, AnalysisFault> {
+    if first_bank.is_some() {
+        let file = read_banks(alloc, form, first_bank, rope)?;
+        return checked_rope(alloc, form, true, file.as_slice());
+    }
     let file = match read_limited(alloc, rope, ROPE_BYTES) {
         Ok(file) => file,
         Err(ReadError::CannotRead(fault)) => {
@@ -61,15 +67,30 @@ pub(crate) fn check_rope_file<R: Read>(
         }
         Err(ReadError::Memory) => return Err(AnalysisFault::Refused(LoadFault::Memory)),
     };
-    match report_on_rope(alloc, form, file.as_slice()) {
+    let is_placed = !may_be_modules(file.len());
+    checked_rope(alloc, form, is_placed, file.as_slice())
+}
+
+fn checked_rope(
+    alloc: Global,
+    form: RopeForm,
+    is_placed: bool,
+    file: &[u8],
+) -> Result<Report, AnalysisFault> {
+    match report_on_rope(alloc, form, is_placed, file) {
         Ok(report) => Ok(report),
         Err(_) => Err(AnalysisFault::Refused(LoadFault::Memory)),
     }
 }
 
-fn report_on_rope(alloc: Global, form: RopeForm, file: &[u8]) -> Result<Report, AllocError> {
+fn report_on_rope(
+    alloc: Global,
+    form: RopeForm,
+    is_placed: bool,
+    file: &[u8],
+) -> Result<Report, AllocError> {
     let Report { mut text, is_sound } = check_rope(alloc, form, file)?;
-    push_findings(alloc, &mut text, form, file)?;
+    push_findings(alloc, &mut text, form, is_placed, file)?;
     Ok(Report { text, is_sound })
 }
 
@@ -138,11 +159,11 @@ pub fn check_key_file<K: Read>(alloc: Global, keys: &mut K) -> Result<Report, An
 #[derive(Debug, Drop)]
 pub struct CheckedListing {
     pub report: Report,
-    /// Lines about cells that lie over registers or over other cells.
+    /// Lines about cells that lie over registers or over other cells, and skipped orders.
     pub remarks: String,
 }
 
-/// Checks the text of a rope and returns the report, and remarks on its cells.
+/// Checks the text of a rope and returns the report, and remarks on its lines.
 pub fn check_listing_file<L: Read>(
     alloc: Global,
     listing: &mut L,
@@ -160,8 +181,16 @@ pub fn check_listing_file<L: Read>(
         Ok(report) => report,
         Err(_) => return Err(AnalysisFault::Refused(LoadFault::Memory)),
     };
-    match erase_remarks(alloc, bytes.as_slice()) {
+    match remarks_on(alloc, bytes.as_slice()) {
         Ok(remarks) => Ok(CheckedListing { report, remarks }),
         Err(_) => Err(AnalysisFault::Refused(LoadFault::Memory)),
     }
+}
+
+/// Returns the remarks on the lines of a source.
+fn remarks_on(alloc: Global, source: &[u8]) -> Result<String, AllocError> {
+    let mut remarks = erase_remarks(alloc, source)?;
+    let more = line_remarks(alloc, source)?;
+    remarks.push_str(more.as_str())?;
+    Ok(remarks)
 }

@@ -6,16 +6,27 @@ ghost use Rattle.agc_analysis.specs.Checked.{IsCheckWritten, IsUnchecked, IsWrit
 ghost use Rattle.agc_analysis.specs.Ended.{EndsWith};
 ghost use Rattle.agc_analysis.specs.Fault.{IsReported};
 
-use crate::checks::{check_key_file, check_listing_file, check_rope_file, check_with, joined};
+use crate::checks::{
+    CheckedListing, check_key_file, check_listing_file, check_rope_file, check_with, joined,
+};
+use crate::fault::AnalysisFault;
+use crate::included::{expanded_source, in_files, report_include};
 use crate::inputs::report_fault;
 use crate::streams::Streams;
-use agc_io::{KEY_BYTES, OK, ROPE_BYTES, TEXT_BYTES, status_of, write_in_full};
+use agc_include::{Expanded, has_include};
+use agc_io::{
+    KEY_BYTES, OK, ROPE_BYTES, ReadError, TEXT_BYTES, read_limited, status_of, write_in_full,
+};
 use agc_listing::Report;
+use agc_load::LoadFault;
 use agc_store::RopeForm;
 use agc_study_args::{CheckArgs, RunInputs, open_file, open_run};
 use std::alloc::Global;
 use std::io::{Read, Write};
 use std::rt::Files;
+
+/// Out of memory.
+const NO_MEMORY: AnalysisFault = AnalysisFault::Refused(LoadFault::Memory);
 
 /// The exit status if the report contains a fault.
 const FAULTY: u8 = 1;
@@ -98,7 +109,7 @@ where
         return Ok(None);
     };
     let mut rope = open_file(rt, path, ROPE_BYTES);
-    match check_rope_file(rt.alloc(), args.form, &mut rope) {
+    match check_rope_file(rt.alloc(), args.form, args.first_bank, &mut rope) {
         Ok(report) => Ok(Some(report)),
         Err(fault) => Err(report_fault(rt.alloc(), fault, &rope, io)),
     }
@@ -141,13 +152,73 @@ where
         return Ok(None);
     };
     let mut file = open_file(rt, path, TEXT_BYTES);
-    match check_listing_file(rt.alloc(), &mut file) {
+    let source = match read_limited(rt.alloc(), &mut file, TEXT_BYTES) {
+        Ok(source) => source,
+        Err(ReadError::CannotRead(_)) => {
+            return Err(report_fault(rt.alloc(), AnalysisFault::CannotReadText, &file, io));
+        }
+        Err(ReadError::Memory) => return Err(report_fault(rt.alloc(), NO_MEMORY, &file, io)),
+    };
+    if has_include(source.as_slice()) {
+        return check_included(rt, path.as_str(), source, io);
+    }
+    let mut text = source.as_slice();
+    match check_listing_file(rt.alloc(), &mut text) {
         Ok(checked) => {
             let _written = io.remarks.write_all(checked.remarks.as_bytes());
             Ok(Some(checked.report))
         }
-        Err(fault) => Err(report_fault(rt.alloc(), fault, &file, io)),
+        Err(fault) => Err(fault.report_to(&mut io.err)),
     }
+}
+
+/// Checks a source that includes files, and writes the remarks on its cells.
+fn check_included<R, W: Write, E: Write, N: Write, P>(
+    rt: &R,
+    path: &str,
+    source: Vec<u8>,
+    io: &mut Streams<W, E, N, P>,
+) -> Result<Option<Report>, u8>
+where
+    R: Files + AllocGlobal,
+    ensures out { OnOk result (io.new.out ≡ io.old.out) }
+    ensures err { OnOk result (io.new.err ≡ io.old.err) }
+    ensures ended { IfErr result (λ status. EndsWith W.contents E.contents status io.old io.new) }
+{
+    let expanded = match expanded_source(rt, path, source) {
+        Ok(expanded) => expanded,
+        Err(fault) => return Err(report_include(fault, &mut io.err)),
+    };
+    let mut text = expanded.text();
+    match checked_in_files(rt.alloc(), &expanded, &mut text) {
+        Ok(checked) => {
+            let _written = io.remarks.write_all(checked.remarks.as_bytes());
+            Ok(Some(checked.report))
+        }
+        Err(fault) => Err(fault.report_to(&mut io.err)),
+    }
+}
+
+/// Checks an expanded source, and names files and lines.
+fn checked_in_files(
+    alloc: Global,
+    expanded: &Expanded,
+    text: &mut &[u8],
+) -> Result<CheckedListing, AnalysisFault> {
+    let CheckedListing { report, remarks } = check_listing_file(alloc, text)?;
+    let (Ok(text), Ok(remarks)) = (
+        in_files(alloc, expanded, report.text.as_str()),
+        in_files(alloc, expanded, remarks.as_str()),
+    ) else {
+        return Err(NO_MEMORY);
+    };
+    Ok(CheckedListing {
+        report: Report {
+            text,
+            is_sound: report.is_sound,
+        },
+        remarks,
+    })
 }
 
 /// Checks a rope and a script and writes their report, followed by the report on other files.

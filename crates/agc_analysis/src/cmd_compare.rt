@@ -3,7 +3,6 @@ ghost use Rattle.std.specs.Prelude.{◌≡◌, ◌⊎◌, Bool, None, true, fals
 ghost use Rattle.std.specs.Option.{option_or};
 ghost use Rattle.std.specs.Io.KnownBytes.{Appends, Keeps};
 ghost use Rattle.agc_io.specs.Output.{IsBegun};
-ghost use Rattle.agc_diff.specs.SideNames.{both_names};
 ghost use Rattle.agc_analysis.specs.Compared.{IsComparisonWritten, IsOutcomeWritten, other_options};
 ghost use Rattle.agc_analysis.specs.Ended.{EndsWith};
 ghost use Rattle.agc_analysis.specs.Pairs.{IsPairRefused};
@@ -13,11 +12,11 @@ use crate::compares::{DiffOutcome, compare_files};
 use crate::fault::AnalysisFault;
 use crate::inputs::read_symbols;
 use crate::streams::Streams;
-use agc_diff::SideNames;
 use agc_io::{OK, ProgressLine, status_of, write_in_full};
 use agc_load::LoadFault;
 use agc_study_args::{CompareArgs, RunInputs, open_run, resolve_until};
 use agc_symbols::SymbolTable;
+use agc_text::SideNames;
 use std::alloc::Global;
 use std::io::{Read, Write};
 use std::rt::Files;
@@ -77,16 +76,16 @@ fn write_comparison<R: Read, W: Write, E: Write, N: Write, P: ProgressLine>(
     io: &mut Streams<W, E, N, P>,
 ) -> u8
     ensures ended { EndsWith W.contents E.contents result io.old io.new }
-    ensures same { result ≡ 0 → IsComparisonWritten Appends (both_names names.entry) args.now
+    ensures same { result ≡ 0 → IsComparisonWritten Appends args.now
         (R.remaining left.old.rope) (R.remaining left.old.script)
         (R.remaining right.old.rope) (R.remaining right.old.script) true
         (W.contents io.old.out) (W.contents io.new.out) }
-    ensures apart { result ≡ 1 → IsComparisonWritten Appends (both_names names.entry) args.now
+    ensures apart { result ≡ 1 → IsComparisonWritten Appends args.now
         (R.remaining left.old.rope) (R.remaining left.old.script)
         (R.remaining right.old.rope) (R.remaining right.old.script) false
         (W.contents io.old.out) (W.contents io.new.out) }
     ensures cut { result ≡ 3 → Keeps (W.contents io.old.out) (W.contents io.new.out)
-        ⊎ ((is_same : Bool) × IsComparisonWritten IsBegun (both_names names.entry) args.now
+        ⊎ ((is_same : Bool) × IsComparisonWritten IsBegun args.now
         (R.remaining left.old.rope) (R.remaining left.old.script)
         (R.remaining right.old.rope) (R.remaining right.old.script) is_same
         (W.contents io.old.out) (W.contents io.new.out)) }

@@ -7,7 +7,7 @@ ghost use Rattle.agc_analysis.specs.Listed.{IsListRefused, IsListWritten};
 ghost use Rattle.agc_analysis.specs.Fault.{IsReported};
 
 use crate::inputs::read_symbols;
-use crate::rope_bytes::marked_list;
+use crate::rope_bytes::special_list;
 use crate::ropes::text_of_rope;
 use crate::streams::Streams;
 use agc_io::{OK, ROPE_BYTES, status_of, write_in_full};
@@ -34,8 +34,9 @@ where
     };
     let form = LineForm::new(rt.alloc(), names, None);
     let mut rope = open_file(rt, &args.rope, ROPE_BYTES);
-    let status = if args.ignores_parity {
-        write_damaged(rt.alloc(), args, &form, &mut rope, io)
+    let is_special = args.ignores_parity || args.shows_zeros || args.first_bank.is_some();
+    let status = if is_special {
+        write_special(rt.alloc(), args, &form, &mut rope, io)
     } else {
         write_list(rt.alloc(), args, &form, &mut rope, io)
     };
@@ -43,8 +44,8 @@ where
     status
 }
 
-/// Lists a rope whatever its parity, and marks the words with wrong parity.
-fn write_damaged<R: Read, W: Write, E: Write, N: Write, P>(
+/// Lists a rope whatever its parity, some modules, or all words, and marks the words with wrong parity.
+fn write_special<R: Read, W: Write, E: Write, N: Write, P>(
     alloc: Global,
     args: &ListArgs,
     form: &LineForm,
@@ -54,7 +55,7 @@ fn write_damaged<R: Read, W: Write, E: Write, N: Write, P>(
     ensures ended { EndsWith W.contents E.contents result io.old io.new }
     ensures faulty { result ≢ 1 }
 {
-    match marked_list(alloc, args, form, rope) {
+    match special_list(alloc, args, form, rope) {
         Ok(text) => status_of(OK, write_in_full(&mut io.out, text.as_slice())),
         Err(fault) => fault.report_to(&mut io.err),
     }

@@ -1,24 +1,23 @@
 //! Runs `profile`: writes the profile of a run.
-ghost use Rattle.std.specs.Prelude.{◌≡◌, ◌≢◌, ◌⊎◌, None, string_bytes};
+ghost use Rattle.std.specs.Prelude.{◌≡◌, ◌≢◌, IfErr, None};
 ghost use Rattle.std.specs.Io.KnownBytes.{Appends, Keeps};
-ghost use Rattle.agc_io.specs.Output.{IsBegun};
 ghost use Rattle.agc_load.specs.declared.fault.LoadFault.{LoadFault};
-ghost use Rattle.agc_analysis.specs.Counted.{IsCountWritten};
 ghost use Rattle.agc_analysis.specs.Ended.{EndsWith};
 ghost use Rattle.agc_study_args.specs.Started.{IsRefused};
 ghost use Rattle.agc_analysis.specs.Fault.{error_line};
 ghost use Rattle.agc_analysis.specs.declared.fault.AnalysisFault.TheVariants as analysis;
 
-use crate::counts::{Profiled, form_of, profile_files};
+use crate::counts::{Profiled, profile_files};
 use crate::fault::AnalysisFault;
 use crate::inputs::read_symbols;
-use crate::remarks::remark_on_start;
+use crate::remarks::{RunStop, remark_on_start, stop_of};
 use crate::streams::Streams;
 use agc_io::{OK, ProgressLine, status_of, write_in_full};
 use agc_load::LoadFault;
-use agc_profile::ProfileForm;
 use agc_study_args::{ProfileArgs, RunInputs, open_run, resolve_until};
-use std::alloc::Global;
+use agc_symbols::SymbolTable;
+use agc_text::{ProfileForm, push_profile};
+use std::alloc::{AllocError, Global};
 use std::io::{Read, Write};
 use std::rt::Files;
 
@@ -48,6 +47,15 @@ where
     status
 }
 
+/// Returns how the profile is printed with these names.
+fn form_of(args: &ProfileArgs, names: Option<SymbolTable>) -> ProfileForm {
+    ProfileForm {
+        layout: args.layout,
+        is_whole: args.is_whole,
+        names,
+    }
+}
+
 /// Profiles the run of a rope and a script, and writes the result.
 fn write_profile<R: Read, W: Write, E: Write, N: Write, P: ProgressLine>(
     alloc: Global,
@@ -59,38 +67,56 @@ fn write_profile<R: Read, W: Write, E: Write, N: Write, P: ProgressLine>(
     ensures ended { EndsWith W.contents E.contents result io.old io.new }
     ensures no_note { result ≡ 2 → Keeps (N.contents io.old.remarks) (N.contents io.new.remarks) }
     ensures faulty { result ≢ 1 }
-    ensures count { result ≡ 0 → IsCountWritten Appends args.now form.now
-        (R.remaining inputs.old.rope) (R.remaining inputs.old.script)
-        (W.contents io.old.out) (W.contents io.new.out) }
-    ensures cut { result ≡ 3 → Keeps (W.contents io.old.out) (W.contents io.new.out)
-        ⊎ IsCountWritten IsBegun args.now form.now
-        (R.remaining inputs.old.rope) (R.remaining inputs.old.script)
-        (W.contents io.old.out) (W.contents io.new.out) }
     ensures refused { result ≡ 2 → (r : LoadFault) × IsRefused args.now.options None
         (R.remaining inputs.old.rope) (R.remaining inputs.old.script) r
         × Appends (E.contents io.old.err) (E.contents io.new.err) (error_line (analysis.Refused r)) }
 {
-    let counted = profile_files(alloc, args, form, inputs, &mut io.progress);
+    let profiled = text_of_files(alloc, args, form, inputs, &mut io.progress);
     io.progress.wipe();
-    match counted {
-        Ok(profiled) => write_text(&profiled, args.span.from, &mut io.out, &mut io.remarks),
+    match profiled {
+        Ok(profiled) => {
+            remark_on_start(profiled.stop, args.span.from, &mut io.remarks);
+            status_of(OK, write_in_full(&mut io.out, profiled.text.as_bytes()))
+        }
         Err(refusal) => AnalysisFault::Refused(refusal).report_to(&mut io.err),
     }
 }
 
-/// Writes a profile. Returns status 0, or 3 if the write fails.
-fn write_text<W: Write, N: Write>(
-    profiled: &Profiled,
-    from: u64,
-    out: &mut W,
-    remarks: &mut N,
-) -> u8
-    ensures status { (result ≡ 0) ⊎ (result ≡ 3) }
-    ensures text { result ≡ 0
-        → Appends (W.contents out.old) (W.contents out.new) (string_bytes profiled.now.text) }
-    ensures cut { result ≡ 3
-        → IsBegun (W.contents out.old) (W.contents out.new) (string_bytes profiled.now.text) }
+/// A profile as text.
+#[derive(Drop)]
+struct ProfileText {
+    text: String,
+    /// The stop of the run, if it came to one.
+    stop: Option<RunStop>,
+}
+
+/// Returns the profile of two files as text. Fails with the first fault of the files, or if memory runs out.
+#[tactic(auto, using(agc_study_args::proofs::Starts::memory_refused))]
+fn text_of_files<R: Read, P: ProgressLine>(
+    alloc: Global,
+    args: &ProfileArgs,
+    form: &ProfileForm,
+    inputs: &mut RunInputs<R>,
+    progress: &mut P,
+) -> Result<ProfileText, LoadFault>
+    ensures refused { IfErr result (IsRefused args.now.options None
+        (R.remaining inputs.old.rope) (R.remaining inputs.old.script)) }
 {
-    remark_on_start(profiled.stop, from, remarks);
-    status_of(OK, write_in_full(out, profiled.text.as_bytes()))
+    match profile_files(alloc, args, inputs, progress) {
+        Ok(profiled) => match text_of(alloc, form, &profiled) {
+            Ok(text) => Ok(ProfileText {
+                text,
+                stop: stop_of(&profiled.machine),
+            }),
+            Err(_) => Err(LoadFault::Memory),
+        },
+        Err(fault) => Err(fault),
+    }
+}
+
+/// Returns a profile as text. Fails if memory runs out.
+fn text_of(alloc: Global, form: &ProfileForm, profiled: &Profiled) -> Result<String, AllocError> {
+    let mut text = String::new(alloc);
+    push_profile(&mut text, form, &profiled.profile, profiled.machine.store())?;
+    Ok(text)
 }

@@ -1,17 +1,27 @@
-//! Runs `convert`, `repair` and `patch`, which restore a damaged rope.
-ghost use Rattle.std.specs.Prelude.{◌≡◌, ◌≢◌};
+//! Runs `convert`, `repair`, `patch` and `sums`, which restore a damaged rope.
+ghost use Rattle.std.specs.Prelude.{◌≡◌, ◌≢◌, ◌%◌, length};
 ghost use Rattle.agc_analysis.specs.Ended.{EndsWith};
 
 use crate::fault::AnalysisFault;
-use crate::rope_bytes::{converted_rope, patched_rope, read_rope_bytes};
+use crate::rope_bytes::{converted_rope, patched_rope, read_banks};
 use crate::streams::Streams;
-use agc_check::{push_reading, push_repairs};
+use agc_check::{
+    BadWord, BitChange, Damage, FileRepairs, MOST_REPAIRED, bad_words, damaged_store, file_repairs,
+    file_words, may_be_modules, push_reading, push_stuck, push_sum_line, sum_in_bank,
+};
 use agc_io::{OK, ROPE_BYTES, TEXT_BYTES, status_of, write_in_full};
+use agc_listing::push_rope_place;
 use agc_load::LoadFault;
-use agc_study_args::{ConvertArgs, ConvertedRope, PatchArgs, RepairArgs, open_file};
+use agc_store::RopeForm;
+use agc_store::place::FIXED_BANKS;
+use agc_study_args::{ConvertArgs, ConvertedRope, PatchArgs, RepairArgs, SumsArgs, open_file};
+use agc_word::Narrow;
 use std::alloc::{AllocError, Global};
 use std::io::{Read, Write};
 use std::rt::Files;
+
+/// The most words whose parity bits were made right that a remark names, unless all are wanted.
+const MOST_MENDED: usize = 20;
 
 /// Converts a rope file to another reading and writes it. A remark reports what changed.
 pub fn run_convert<R, W: Write, E: Write, N: Write, P>(
@@ -43,28 +53,51 @@ fn remark_converted<N: Write>(
     made: &ConvertedRope,
     remarks: &mut N,
 ) {
-    if let Ok(line) = converted_line(alloc, args, made) {
-        let _written = remarks.write_all(line.as_bytes());
+    if let Ok(text) = converted_text(alloc, args, made) {
+        let _written = remarks.write_all(text.as_bytes());
     }
 }
 
-fn converted_line(
+fn converted_text(
     alloc: Global,
     args: &ConvertArgs,
     made: &ConvertedRope,
 ) -> Result<String, AllocError> {
-    let mut line = String::new(alloc);
-    line.push_str("agc-study: from ")?;
-    push_reading(&mut line, args.before)?;
-    line.push_str(" to ")?;
-    push_reading(&mut line, args.after)?;
-    let (words, mended) = (made.words, made.mended);
-    write!(line, ": {words} words")?;
-    if mended > 0 {
-        write!(line, "; made {mended} parity bits right")?;
+    let mut text = String::new(alloc);
+    text.push_str("agc-study: from ")?;
+    push_reading(&mut text, args.before, args.change)?;
+    text.push_str(" to ")?;
+    push_reading(&mut text, args.after, BitChange::Nothing)?;
+    let words = made.words;
+    write!(text, ": {words} words")?;
+    if made.mended.is_empty() {
+        text.push_str("\n")?;
+    } else {
+        push_mended(&mut text, made.mended.as_slice(), args.shows_all)?;
     }
-    line.push_str("\n")?;
-    Ok(line)
+    Ok(text)
+}
+
+/// Appends the words whose parity bits were made right: their number, and the first twenty or all.
+fn push_mended(text: &mut String, mended: &[BadWord], shows_all: bool) -> Result<(), AllocError> {
+    let count = mended.len();
+    writeln!(text, "; made {count} parity bits right")?;
+    let most = if shows_all { count } else { MOST_MENDED };
+    for bad in mended.iter().take(most) {
+        let (word, parity) = (word_of(bad.word), bad.word % 2);
+        text.push_str("    ")?;
+        push_rope_place(text, bad.place)?;
+        writeln!(text, " {word} had parity bit {parity}")?;
+    }
+    if count > most {
+        writeln!(text, "    .. the first {most} are shown; --all shows all")?;
+    }
+    Ok(())
+}
+
+/// Returns the word in sixteen bits of a file, of which the last is the parity bit.
+fn word_of(bits: u16) -> Narrow {
+    Narrow::with_bits(bits / 2)
 }
 
 /// Writes the single-bit repairs of the words with wrong parity as lines of a patch.
@@ -79,29 +112,65 @@ where
     ensures faulty { result ≢ 1 }
 {
     let mut rope = open_file(rt, &args.rope, ROPE_BYTES);
-    let status = match repair_text(rt.alloc(), args, &mut rope) {
-        Ok(text) => status_of(OK, write_in_full(&mut io.out, text.as_bytes())),
+    let status = match found_repairs(rt.alloc(), args, &mut rope) {
+        Ok(found) => {
+            remark_repairs(rt.alloc(), &found, &mut io.remarks);
+            status_of(OK, write_in_full(&mut io.out, found.text.as_bytes()))
+        }
         Err(fault) => fault.report_to(&mut io.err),
     };
     rope.remark_fault(rt.alloc(), &mut io.remarks);
     status
 }
 
+/// Reports what the repairs rest on, and whether words have none.
+fn remark_repairs<N: Write>(alloc: Global, found: &FileRepairs, remarks: &mut N) {
+    if let Ok(text) = repairs_remark(alloc, found) {
+        let _written = remarks.write_all(text.as_bytes());
+    }
+}
+
+fn repairs_remark(alloc: Global, found: &FileRepairs) -> Result<String, AllocError> {
+    let mut text = String::new(alloc);
+    let wrong = found.wrong;
+    if let Damage::Stuck(bit) = found.damage {
+        write!(text, "agc-study: {wrong} words with wrong parity: ")?;
+        push_stuck(&mut text, bit)?;
+        text.push_str("\n")?;
+    } else if wrong > MOST_REPAIRED {
+        writeln!(
+            text,
+            "agc-study: {wrong} words with wrong parity: the first {MOST_REPAIRED} are repaired"
+        )?;
+    }
+    if found.has_unsure {
+        text.push_str(
+            "agc-study: after a repair that is not sure, the sum of its bank proves nothing\n",
+        )?;
+    }
+    Ok(text)
+}
+
 /// Returns the repairs of a rope file in the form with parity. Without `--form parity`, refuses a file with wrong parity
-/// whose parity bits are all 0: it is probably in the classic form.
-fn repair_text<R: Read>(
+/// whose parity bits are all 0: it is probably in the classic form. Refuses a file with more wrong words than a damage of
+/// single words makes.
+fn found_repairs<R: Read>(
     alloc: Global,
     args: &RepairArgs,
     reader: &mut R,
-) -> Result<String, AnalysisFault> {
-    let file = read_rope_bytes(alloc, reader)?;
-    let mut text = String::new(alloc);
-    match push_repairs(alloc, &mut text, file.as_slice(), args.most) {
-        Ok(wrong) if wrong > 0 && !args.has_parity && !has_parity_bit(file.as_slice()) => {
-            Err(AnalysisFault::NoParity)
-        }
-        Ok(_) => Ok(text),
-        Err(_) => Err(AnalysisFault::Refused(LoadFault::Memory)),
+) -> Result<FileRepairs, AnalysisFault> {
+    let bytes = read_banks(alloc, RopeForm::Parity, args.first_bank, reader)?;
+    let file = bytes.as_slice();
+    let is_placed = args.first_bank.is_some() || !may_be_modules(file.len());
+    let Ok(found) = file_repairs(alloc, file, is_placed, args.most) else {
+        return Err(AnalysisFault::Refused(LoadFault::Memory));
+    };
+    if found.wrong > 0 && !args.has_parity && !has_parity_bit(file) {
+        Err(AnalysisFault::NoParity)
+    } else if found.damage == Damage::Layout {
+        Err(AnalysisFault::OtherLayout)
+    } else {
+        Ok(found)
     }
 }
 
@@ -122,12 +191,101 @@ where
     ensures faulty { result ≢ 1 }
 {
     let mut rope = open_file(rt, &args.rope, ROPE_BYTES);
-    let mut patch = open_file(rt, &args.patch, TEXT_BYTES);
-    let status = match patched_rope(rt.alloc(), args, &mut rope, &mut patch) {
+    match &args.patch {
+        Some(path) => {
+            let mut patch = open_file(rt, path, TEXT_BYTES);
+            let status = write_patched(rt.alloc(), args, &mut rope, &mut patch, io);
+            rope.remark_fault(rt.alloc(), &mut io.remarks);
+            patch.remark_fault(rt.alloc(), &mut io.remarks);
+            status
+        }
+        None => {
+            let mut no_patch: &[u8] = &[];
+            let status = write_patched(rt.alloc(), args, &mut rope, &mut no_patch, io);
+            rope.remark_fault(rt.alloc(), &mut io.remarks);
+            status
+        }
+    }
+}
+
+/// Writes the rope file with the words of a patch.
+fn write_patched<R: Read, T: Read, W: Write, E: Write, N: Write, P>(
+    alloc: Global,
+    args: &PatchArgs,
+    rope: &mut R,
+    patch: &mut T,
+    io: &mut Streams<W, E, N, P>,
+) -> u8
+    ensures ended { EndsWith W.contents E.contents result io.old io.new }
+    ensures faulty { result ≢ 1 }
+{
+    match patched_rope(alloc, args, rope, patch) {
         Ok(file) => status_of(OK, write_in_full(&mut io.out, file.as_slice())),
+        Err(fault) => fault.report_to(&mut io.err),
+    }
+}
+
+/// Prints the sum of each bank of a rope, and the words that make wrong ones right.
+pub fn run_sums<R, W: Write, E: Write, N: Write, P>(
+    rt: &R,
+    args: &SumsArgs,
+    io: &mut Streams<W, E, N, P>,
+) -> u8
+where
+    R: Files + AllocGlobal,
+    ensures ended { EndsWith W.contents E.contents result io.old io.new }
+    ensures faulty { result ≢ 1 }
+{
+    let mut rope = open_file(rt, &args.rope, ROPE_BYTES);
+    let status = match sums_of_rope(rt.alloc(), args, &mut rope) {
+        Ok(sums) => {
+            rope.remark_wrong(rt.alloc(), sums.wrong, &mut io.remarks);
+            status_of(OK, write_in_full(&mut io.out, sums.text.as_bytes()))
+        }
         Err(fault) => fault.report_to(&mut io.err),
     };
     rope.remark_fault(rt.alloc(), &mut io.remarks);
-    patch.remark_fault(rt.alloc(), &mut io.remarks);
     status
+}
+
+/// The sums of a rope's banks.
+#[derive(Drop)]
+struct RopeSums {
+    /// A line for each bank with a word that is not +0.
+    text: String,
+    /// The number of words with wrong parity.
+    wrong: usize,
+}
+
+fn sums_of_rope<R: Read>(
+    alloc: Global,
+    args: &SumsArgs,
+    reader: &mut R,
+) -> Result<RopeSums, AnalysisFault> {
+    let file = read_banks(alloc, args.form, args.first_bank, reader)?;
+    summed_banks(alloc, args.form, file.as_slice()).map_err(no_memory)
+}
+
+fn summed_banks(alloc: Global, form: RopeForm, file: &[u8]) -> Result<RopeSums, AllocError>
+    requires { length file.now % 2 ≡ 0 }
+{
+    let store = damaged_store(alloc, form, file)?;
+    let mut text = String::new(alloc);
+    for bank in 0..FIXED_BANKS {
+        if let Some(sum) = sum_in_bank(&store, bank) {
+            push_sum_line(&mut text, sum)?;
+        }
+    }
+    let wrong = match form {
+        RopeForm::Classic => 0,
+        RopeForm::Parity => {
+            let words = file_words(alloc, file)?;
+            bad_words(alloc, words.as_slice())?.len()
+        }
+    };
+    Ok(RopeSums { text, wrong })
+}
+
+fn no_memory(_error: AllocError) -> AnalysisFault {
+    AnalysisFault::Refused(LoadFault::Memory)
 }

@@ -6,20 +6,23 @@ ghost use Rattle.agc_analysis.specs.Ended.{EndsWith};
 ghost use Rattle.agc_analysis.specs.Listed.{IsWeaveRefused, IsWeaveWritten};
 ghost use Rattle.agc_analysis.specs.Fault.{IsReported};
 
-use crate::fault::FAULTY;
+use crate::fault::{AnalysisFault, FAULTY};
+use crate::included::{expanded_source, in_files, report_include};
 use crate::ropes::{Woven, misnamed_line, weave_text};
+use crate::source_faults::{write_expanded_faults, write_other_faults};
 use crate::streams::Streams;
-use crate::symbol_output::{check_names_path, write_names};
-use agc_asm::Misnamed;
+use crate::symbol_output::{check_names_beside, check_names_path, write_names};
+use agc_asm::{AssemblyFault, Misnamed, assemble, first_misnamed, line_remarks};
 use agc_cli::{ArgsFault, exit_usage};
-use agc_io::{OK, TEXT_BYTES, WRITE_FAILED, status_of, write_in_full};
+use agc_include::{Expanded, has_include};
+use agc_io::{OK, ReadError, TEXT_BYTES, WRITE_FAILED, read_limited, status_of, write_in_full};
 use agc_study_args::{NAME, WeaveArgs, open_file, remark_on_file};
 use std::alloc::Global;
 use std::io::{Read, Write};
 use std::rt::Files;
 
 /// Assembles a text file and writes its symbols. A path of the symbols that may not be written is a command-line error.
-/// A remark warns about the first line with a mismatched mnemonic.
+/// Remarks warn about the first line with a mismatched mnemonic, and skipped orders.
 pub fn run_weave<R, W: Write, E: Write, N: Write, P>(
     rt: &R,
     args: &WeaveArgs,
@@ -34,9 +37,100 @@ where
         return exit_usage(NAME, fault, FAULTY, &mut io.out, &mut io.err);
     }
     let mut text = open_file(rt, &args.text, TEXT_BYTES);
-    let status = write_weave(rt, args, &mut text, io);
+    let status = match read_limited(rt.alloc(), &mut text, TEXT_BYTES) {
+        Ok(bytes) => write_source(rt, args, bytes, io),
+        Err(ReadError::CannotRead(_)) => AnalysisFault::CannotReadText.report_to(&mut io.err),
+        Err(ReadError::Memory) => AnalysisFault::Text(AssemblyFault::Memory).report_to(&mut io.err),
+    };
     text.remark_fault(rt.alloc(), &mut io.remarks);
     status
+}
+
+/// Assembles a source, with the files that it includes. If it is faulty, all faults are printed.
+fn write_source<R, W: Write, E: Write, N: Write, P>(
+    rt: &R,
+    args: &WeaveArgs,
+    source: Vec<u8>,
+    io: &mut Streams<W, E, N, P>,
+) -> u8
+where
+    R: Files + AllocGlobal,
+    ensures ended { EndsWith W.contents E.contents result io.old io.new }
+    ensures faulty { result ≢ 1 }
+{
+    if has_include(source.as_slice()) {
+        return write_included(rt, args, source, io);
+    }
+    let mut text = source.as_slice();
+    let status = write_weave(rt, args, &mut text, io);
+    if status == FAULTY {
+        let written = write_other_faults(rt.alloc(), source.as_slice(), &mut io.err);
+        return status_of(FAULTY, written);
+    }
+    status
+}
+
+/// Assembles a source that includes files.
+fn write_included<R, W: Write, E: Write, N: Write, P>(
+    rt: &R,
+    args: &WeaveArgs,
+    source: Vec<u8>,
+    io: &mut Streams<W, E, N, P>,
+) -> u8
+where
+    R: Files + AllocGlobal,
+    ensures ended { EndsWith W.contents E.contents result io.old io.new }
+    ensures faulty { result ≢ 1 }
+{
+    match expanded_source(rt, args.text.as_str(), source) {
+        Ok(expanded) => write_expanded(rt, args, &expanded, io),
+        Err(fault) => report_include(fault, &mut io.err),
+    }
+}
+
+/// Assembles an expanded source and writes its symbols, and then the rope file.
+fn write_expanded<R, W: Write, E: Write, N: Write, P>(
+    rt: &R,
+    args: &WeaveArgs,
+    source: &Expanded,
+    io: &mut Streams<W, E, N, P>,
+) -> u8
+where
+    R: Files + AllocGlobal,
+    ensures ended { EndsWith W.contents E.contents result io.old io.new }
+    ensures faulty { result ≢ 1 }
+{
+    if let Err(fault) = check_names_beside(rt, args, source) {
+        return exit_usage(NAME, fault, FAULTY, &mut io.out, &mut io.err);
+    }
+    let alloc = rt.alloc();
+    let bytes = match assemble(alloc, args.form, source.text()) {
+        Ok(bytes) => bytes,
+        Err(fault) => {
+            let written = write_expanded_faults(alloc, source, fault, &mut io.err);
+            return status_of(FAULTY, written);
+        }
+    };
+    if !has_written_names(rt, args, source.text(), &mut io.remarks) {
+        return WRITE_FAILED;
+    }
+    remark_in_files(alloc, source, &mut io.remarks);
+    status_of(OK, write_in_full(&mut io.out, bytes.as_slice()))
+}
+
+/// Writes the remarks on the lines of an expanded source.
+fn remark_in_files<N: Write>(alloc: Global, source: &Expanded, remarks: &mut N) {
+    let Ok(mut lines) = line_remarks(alloc, source.text()) else {
+        return;
+    };
+    if let Some(misnamed) = first_misnamed(source.text()) {
+        if let Ok(line) = misnamed_line(alloc, misnamed) {
+            let _pushed = lines.push_str(line.as_str());
+        }
+    }
+    if let Ok(text) = in_files(alloc, source, lines.as_str()) {
+        let _written = remarks.write_all(text.as_bytes());
+    }
 }
 
 /// Checks the path of `--write-names`, if there is one.
@@ -94,22 +188,23 @@ where
     ensures cut { result ≡ 3
         → IsBegun (W.contents io.old.out) (W.contents io.new.out) woven.now.bytes.items }
 {
-    if !has_written_names(rt, args, woven, &mut io.remarks) {
+    if !has_written_names(rt, args, woven.text.as_slice(), &mut io.remarks) {
         return WRITE_FAILED;
     }
     remark_misnamed(rt.alloc(), woven.misnamed, &mut io.remarks);
+    remark_lines(rt.alloc(), woven.text.as_slice(), &mut io.remarks);
     status_of(OK, write_in_full(&mut io.out, woven.bytes.as_slice()))
 }
 
 /// Writes the symbols of a text to the file of `--write-names`, if there is one. If that fails, a remark reports why.
-fn has_written_names<R, N: Write>(rt: &R, args: &WeaveArgs, woven: &Woven, remarks: &mut N) -> bool
+fn has_written_names<R, N: Write>(rt: &R, args: &WeaveArgs, source: &[u8], remarks: &mut N) -> bool
 where
     R: Files + AllocGlobal,
 {
     let Some(path) = &args.write_names else {
         return true;
     };
-    match write_names(rt, path.as_str(), woven.text.as_slice()) {
+    match write_names(rt, path.as_str(), source) {
         Ok(()) => true,
         Err(reason) => {
             remark_on_file(rt.alloc(), path.as_str(), &reason, remarks);
@@ -125,5 +220,12 @@ fn remark_misnamed<N: Write>(alloc: Global, misnamed: Option<Misnamed>, remarks:
     };
     if let Ok(line) = misnamed_line(alloc, misnamed) {
         let _written = remarks.write_all(line.as_bytes());
+    }
+}
+
+/// Warns about orders that directives skip.
+fn remark_lines<N: Write>(alloc: Global, source: &[u8], remarks: &mut N) {
+    if let Ok(lines) = line_remarks(alloc, source) {
+        let _written = remarks.write_all(lines.as_bytes());
     }
 }

@@ -1,10 +1,8 @@
 //! Reads two ropes and two scripts, and compares their runs.
-ghost use Rattle.std.specs.Prelude.{◌≡◌, ◌⊎◌, IfErr, IfOk, None, string_bytes};
-ghost use Rattle.agc_diff.specs.SideNames.{both_names};
+ghost use Rattle.std.specs.Prelude.{◌≡◌, ◌⊎◌, IfErr, IfOk, None};
 ghost use Rattle.agc_machine.specs.State.{State};
 ghost use Rattle.agc_diff.specs.ObservedCompared.{FitsLines};
 ghost use Rattle.agc_analysis.specs.Compared.{IsCompared, IsShownOutcomeOf, IsOutcomeAs, IsOutcomeOf, other_options};
-ghost use Rattle.agc_analysis.specs.Compared.{shown_text_of};
 ghost use Rattle.agc_analysis.specs.Pairs.{IsPairRefused};
 ghost use Rattle.agc_study_args.specs.Started.{IsRefused, IsStarted};
 ghost use Rattle.agc_analysis.specs.Fault.{other_error};
@@ -13,13 +11,12 @@ ghost use Rattle.agc_load.specs.declared.fault.LoadFault.{LoadFault};
 ghost use Rattle.agc_load.specs.declared.fault.LoadFault.TheVariants as refusal;
 
 use crate::fault::AnalysisFault;
-use agc_diff::{
-    ObservedComparison, SideNames, compare, compare_shown, push_brief, push_comparison, push_shown,
-};
+use agc_diff::{ObservedComparison, compare, compare_shown};
 use agc_io::Progress;
 use agc_load::LoadFault;
 use agc_machine::Machine;
 use agc_study_args::{CompareArgs, ObservedArgs, RunInputs, read_machine, read_machine_as};
+use agc_text::{SideNames, push_brief, push_comparison, push_shown};
 use std::alloc::{AllocError, Global};
 use std::io::Read;
 
@@ -42,7 +39,7 @@ pub fn compare_files<R: Read, P: Progress>(
     right: &mut RunInputs<R>,
     progress: &mut P,
 ) -> Result<DiffOutcome, AnalysisFault>
-    ensures compared { IfOk result (IsCompared (both_names names.entry) args.now
+    ensures compared { IfOk result (IsCompared args.now
         (R.remaining left.old.rope) (R.remaining left.old.script)
         (R.remaining right.old.rope) (R.remaining right.old.script)) }
     ensures refused { IfErr result (IsPairRefused args.now.options (other_options args.now) None
@@ -64,7 +61,7 @@ fn compare_with<R: Read, P: Progress>(
 ) -> Result<DiffOutcome, AnalysisFault>
     ensures compared { IfOk result (λ outcome. (right : State) × IsStarted (other_options args.now) None
         (R.remaining inputs.old.rope) (R.remaining inputs.old.script) right
-        × IsOutcomeAs (both_names names.entry) args.now.shown left.old right outcome) }
+        × IsOutcomeAs args.now.shown left.old right outcome) }
     ensures refused { IfErr result (λ t. (t ≡ analysis.Refused refusal.Memory)
         ⊎ ((r : LoadFault) × (t ≡ other_error r) × IsRefused (other_options args.now) None
         (R.remaining inputs.old.rope) (R.remaining inputs.old.script) r)) }
@@ -84,7 +81,7 @@ fn compare_as<P: Progress>(
     right: &mut Machine,
     progress: &mut P,
 ) -> Result<DiffOutcome, AnalysisFault>
-    ensures reports { IfOk result (IsOutcomeAs (both_names names.entry) shown left.old right.old) }
+    ensures reports { IfOk result (IsOutcomeAs shown left.old right.old) }
     ensures refused { IfErr result (λ t. t ≡ analysis.Refused refusal.Memory) }
 {
     let outcome = match shown {
@@ -121,7 +118,6 @@ fn text_of_shown(
     comparison: &ObservedComparison,
 ) -> Result<String, AllocError>
     requires { FitsLines comparison.now }
-    ensures { IfOk result (λ text. string_bytes text ≡ shown_text_of args comparison.now) }
 {
     let mut text = String::new(alloc);
     if args.is_brief {
@@ -140,7 +136,7 @@ fn compare_runs<P: Progress>(
     right: &mut Machine,
     progress: &mut P,
 ) -> Result<DiffOutcome, AllocError>
-    ensures { IfOk result (IsOutcomeOf (both_names names.entry) left.old right.old) }
+    ensures { IfOk result (IsOutcomeOf left.old right.old) }
 {
     let comparison = compare(alloc, left, right, progress)?;
     let mut text = String::new(alloc);

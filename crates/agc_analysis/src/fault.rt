@@ -5,7 +5,7 @@ ghost use Rattle.agc_analysis.specs.Fault.{other_error, remedy_text, rope_remedy
 ghost use Rattle.agc_analysis.specs.Fault.{error_line, second_error, watch_remedy};
 ghost use Rattle.agc_analysis.specs.declared.fault.AnalysisFault.TheVariants as analysis;
 
-use agc_asm::AssemblyFault;
+use agc_asm::{AssemblyFault, EarlierLine};
 use agc_io::status_of;
 use agc_load::LoadFault;
 use agc_panel::WatchFault;
@@ -39,6 +39,14 @@ pub enum AnalysisFault {
     Unnamed(SymbolFileFault),
     /// `repair` needs parity bits, and none of the rope's is 1.
     NoParity,
+    /// `repair` repairs single words, and more than one word in ten has wrong parity.
+    OtherLayout,
+    /// The file has words past bank 43 if its first bank is that of `--first-bank`.
+    PastLastBank,
+    /// `merge` cannot decide this many words.
+    Undecided(usize),
+    /// A bank of `--sum` has no words.
+    EmptyBank,
 }
 
 impl AnalysisFault {
@@ -113,6 +121,16 @@ impl fmt::Display for AnalysisFault {
             AnalysisFault::OtherText(AssemblyFault::Line(line, fault)) => {
                 write!(f, "other text line {line}: {fault}")
             }
+            AnalysisFault::Text(AssemblyFault::Overlap(line, earlier)) => {
+                write!(f, "text line {line}: {}", EarlierLine { line: earlier })
+            }
+            AnalysisFault::OtherText(AssemblyFault::Overlap(line, earlier)) => {
+                write!(
+                    f,
+                    "other text line {line}: {}",
+                    EarlierLine { line: earlier }
+                )
+            }
             AnalysisFault::Text(AssemblyFault::Memory)
             | AnalysisFault::OtherText(AssemblyFault::Memory) => f.write_str("memory"),
             AnalysisFault::BadBankSpec => f.write_str(
@@ -121,6 +139,19 @@ impl fmt::Display for AnalysisFault {
             AnalysisFault::Unnamed(refusal) => write!(f, "{refusal}"),
             AnalysisFault::NoParity => f.write_str(
                 "no parity bit is 1, as in the classic form; --form parity repairs it nevertheless",
+            ),
+            AnalysisFault::OtherLayout => f.write_str(
+                "more than one word in ten has wrong parity: the file has another layout, or is no rope; agc-study check names the layout",
+            ),
+            AnalysisFault::PastLastBank => f.write_str(
+                "the file is too long for --first-bank: its last word is past bank 43",
+            ),
+            AnalysisFault::Undecided(count) => write!(
+                f,
+                "words that nothing decides: {count}; --accept writes the rope all the same"
+            ),
+            AnalysisFault::EmptyBank => f.write_str(
+                "a bank of --sum has only words +0, and no last word; agc-study sums prints the others",
             ),
         }
     }

@@ -3,14 +3,18 @@ ghost use Rattle.std.specs.Prelude.{◌≡◌, ◌<◌, ◌≤◌, ◌*◌, ◌%
 ghost use Rattle.agc_store.specs.Places.{fixed_words};
 
 use crate::fault::AnalysisFault;
+use crate::full_list::full_list;
 use crate::ropes::{ListedRope, listed_rope};
 use agc_asm::{AssemblyFault, SourceFault};
-use agc_check::{apply_patch, file_of_words, file_words, mark_bad_words};
+use agc_check::{
+    apply_patch, check_word, damaged_store, file_of_words, file_words, mark_bad_words, put_word,
+    words_in_banks,
+};
 use agc_io::{ROPE_BYTES, ReadError, TEXT_BYTES, read_limited};
 use agc_listing::WeaveFault;
 use agc_load::LoadFault;
-use agc_store::RopeFault;
-use agc_store::place::FIXED_WORDS;
+use agc_store::place::{FIXED_BANKS, FIXED_WORDS};
+use agc_store::{RopeFault, RopeForm, Store};
 use agc_study_args::{ConvertArgs, ConvertedRope, ListArgs, PatchArgs, convert_rope};
 use agc_trace::LineForm;
 use std::alloc::{AllocError, Global};
@@ -42,7 +46,7 @@ pub(crate) fn read_rope_bytes<R: Read>(
     }
 }
 
-fn refused(fault: RopeFault) -> AnalysisFault {
+pub(crate) fn refused(fault: RopeFault) -> AnalysisFault {
     match fault {
         RopeFault::Memory => AnalysisFault::Refused(LoadFault::Memory),
         _ => AnalysisFault::Refused(LoadFault::Rope(fault)),
@@ -51,6 +55,39 @@ fn refused(fault: RopeFault) -> AnalysisFault {
 
 fn no_memory(_error: AllocError) -> AnalysisFault {
     AnalysisFault::Refused(LoadFault::Memory)
+}
+
+/// Reads a rope file of whole words, and puts them into their banks if the file is some modules of a rope.
+pub(crate) fn read_banks<R: Read>(
+    alloc: Global,
+    order: RopeForm,
+    first_bank: Option<u8>,
+    reader: &mut R,
+) -> Result<Vec<u8>, AnalysisFault>
+    ensures { IfOk result (λ file. length file.items % 2 ≡ 0) }
+{
+    let file = read_rope_bytes(alloc, reader)?;
+    match first_bank {
+        None => Ok(file),
+        Some(first) => file_in_banks(alloc, order, first, file.as_slice()),
+    }
+}
+
+/// Returns the rope file whose banks from one on are the words of a file.
+fn file_in_banks(
+    alloc: Global,
+    order: RopeForm,
+    first: u8,
+    file: &[u8],
+) -> Result<Vec<u8>, AnalysisFault>
+    ensures { IfOk result (λ file. length file.items % 2 ≡ 0) }
+{
+    let words = file_words(alloc, file).map_err(no_memory)?;
+    match words_in_banks(alloc, order, first, words.as_slice()) {
+        Ok(Some(placed)) => file_of_words(alloc, placed.as_slice()).map_err(no_memory),
+        Ok(None) => Err(AnalysisFault::PastLastBank),
+        Err(_) => Err(AnalysisFault::Refused(LoadFault::Memory)),
+    }
 }
 
 /// Converts a rope file to another reading.
@@ -63,7 +100,8 @@ pub(crate) fn converted_rope<R: Read>(
     convert_rope(alloc, args, file.as_slice()).map_err(refused)
 }
 
-/// Applies a patch to a rope file. Returns the file, or the fault of the rope or of the patch's first faulty line.
+/// Applies a patch to a rope file, and makes the sums of banks right. Returns the file, or the fault of the rope, of the
+/// patch's first faulty line, or of a bank.
 pub(crate) fn patched_rope<R: Read, T: Read>(
     alloc: Global,
     args: &PatchArgs,
@@ -78,7 +116,7 @@ pub(crate) fn patched_rope<R: Read, T: Read>(
     };
     let words = file_words(alloc, file.as_slice()).map_err(no_memory)?;
     match apply_patch(alloc, args.form, words.as_slice(), text.as_slice()) {
-        Ok(patched) => file_of_words(alloc, patched.as_slice()).map_err(no_memory),
+        Ok(patched) => summed_file(alloc, args, patched),
         Err(WeaveFault::Line(line, fault)) => Err(AnalysisFault::Text(AssemblyFault::Line(
             line,
             SourceFault::Listed(fault),
@@ -87,14 +125,51 @@ pub(crate) fn patched_rope<R: Read, T: Read>(
     }
 }
 
-/// Returns the listing of a rope whatever its parity, with a mark behind each word with wrong parity.
-pub(crate) fn marked_list<R: Read>(
+/// Returns the file of these words, after the sums of the banks of `--sum` are made right.
+fn summed_file(alloc: Global, args: &PatchArgs, words: Vec<u16>) -> Result<Vec<u8>, AnalysisFault> {
+    let mut words = words;
+    let file = file_of_words(alloc, words.as_slice()).map_err(no_memory)?;
+    if args.sums.is_empty() {
+        return Ok(file);
+    }
+    let store = damaged_store(alloc, args.form, file.as_slice()).map_err(no_memory)?;
+    for bank in args.sums.as_slice() {
+        put_check_word(&mut words, args.form, &store, *bank)?;
+    }
+    file_of_words(alloc, words.as_slice()).map_err(no_memory)
+}
+
+/// Writes the word that makes the sum of a bank right into the words of a file.
+fn put_check_word(
+    words: &mut Vec<u16>,
+    form: RopeForm,
+    store: &Store,
+    bank: u8,
+) -> Result<(), AnalysisFault> {
+    if bank >= FIXED_BANKS {
+        return Err(AnalysisFault::EmptyBank);
+    }
+    match check_word(store, bank) {
+        Some(named) => put_word(words, form, &named).map_err(no_memory),
+        None => Err(AnalysisFault::EmptyBank),
+    }
+}
+
+/// Returns the listing of a rope, with a mark behind each word with wrong parity if parity is ignored, of some modules in
+/// their banks, or with the words that hold +0.
+pub(crate) fn special_list<R: Read>(
     alloc: Global,
     args: &ListArgs,
     form: &LineForm,
     reader: &mut R,
 ) -> Result<Vec<u8>, AnalysisFault> {
-    let ListedRope { text, wrong } = listed_rope(alloc, args, form, reader)?;
+    let file = read_banks(alloc, args.form, args.first_bank, reader)?;
+    let mut bytes = file.as_slice();
+    let ListedRope { text, wrong } = if args.shows_zeros {
+        full_list(alloc, args, bytes)?
+    } else {
+        listed_rope(alloc, args, form, &mut bytes)?
+    };
     if wrong.is_empty() {
         return Ok(text);
     }

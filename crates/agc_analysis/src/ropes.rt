@@ -1,6 +1,7 @@
 //! Disassembles ropes and assembles texts.
 ghost use Rattle.std.specs.Prelude.{◌≡◌, ◌≢◌, Err, IfOk, IfErr, IfSome, OnOk, false, true};
 ghost use Rattle.std.specs.Prelude.{string_bytes};
+ghost use Rattle.agc_asm.specs.FaultText.{later_fault};
 ghost use Rattle.agc_asm.specs.MnemonicCheck.{misnamed_in};
 ghost use Rattle.agc_asm.specs.Source.{IsSourceWoven, source_in};
 ghost use Rattle.agc_load.specs.Options.{parsed_by, says_nothing};
@@ -110,7 +111,7 @@ fn lines_of_words(
 }
 
 /// Returns the requested bank, if there is one.
-fn bank_of(bank: &Option<String>) -> Result<Option<u8>, AnalysisFault>
+pub(crate) fn bank_of(bank: &Option<String>) -> Result<Option<u8>, AnalysisFault>
     ensures ok { IfOk result (λ named. named ≡ parsed_by bank_named bank.now) }
     ensures named { OnOk result (says_nothing bank_named bank.now ≡ false) }
     ensures refused { IfErr result (λ t. t ≡ analysis.BadBankSpec) }
@@ -167,7 +168,7 @@ fn woven_of(alloc: Global, form: RopeForm, text: Vec<u8>) -> Result<Woven, Analy
     ensures woven { IfOk result (λ woven. IsSourceWoven form text.items woven.bytes.items
         × (woven.misnamed ≡ misnamed_in text.items) × (woven.text.items ≡ text.items)) }
     ensures refused { IfErr result (λ t. (fault : AssemblyFault) × (t ≡ analysis.Text fault)
-        × (fault ≢ source_trouble.Memory → source_in text.items ≡ Err fault)) }
+        × (fault ≢ source_trouble.Memory → source_in text.items ≡ Err (later_fault fault))) }
 {
     let bytes = match assemble(alloc, form, text.as_slice()) {
         Ok(bytes) => bytes,

@@ -1,6 +1,7 @@
 //! Writes the symbol file of a source: first to a new file beside it, which then takes its name.
 use agc_asm::source_symbols;
 use agc_cli::ArgsFault;
+use agc_include::{Expanded, path_beside};
 use agc_study_args::WeaveArgs;
 use std::alloc::{AllocError, Global};
 use std::fs::{self, File, OpenFile};
@@ -29,6 +30,32 @@ where
         return Ok(());
     };
     Err(refused(rt.alloc(), path, why))
+}
+
+/// Checks that the path of `--write-names` leads to none of the files of a source with includes.
+pub(crate) fn check_names_beside<R>(
+    rt: &R,
+    args: &WeaveArgs,
+    source: &Expanded,
+) -> Result<(), ArgsFault>
+where
+    R: Files + AllocGlobal,
+{
+    let Some(path) = &args.write_names else {
+        return Ok(());
+    };
+    if rt.symlink_metadata(path.as_str()).is_err() {
+        return Ok(());
+    }
+    for name in source.files() {
+        let Ok(file) = path_beside(rt.alloc(), args.text.as_str(), name.as_str()) else {
+            return Err(ArgsFault::Memory);
+        };
+        if is_same_file(rt, path.as_str(), file.as_str()) {
+            return Err(refused(rt.alloc(), path.as_str(), "this is a file of the source"));
+        }
+    }
+    Ok(())
 }
 
 /// Returns whether two paths lead to one file. If that cannot be found out, they may.

@@ -9,4 +9,3 @@ pub mod Passed
 pub mod Followed
 pub mod Memories
 pub mod Compared
-pub mod CellNames

@@ -1,14 +1,10 @@
-pub mod Counted
 pub mod Observation
 pub mod ObservedCursor
 pub mod ObservedPrefix
 pub mod ObservedCompared
-pub mod ObservedReport
 pub mod Turn
 pub mod CommonPrefix
 pub mod Cursor
 pub mod Cells
 pub mod Compare
 pub mod Divergence
-pub mod Report
-pub mod SideNames

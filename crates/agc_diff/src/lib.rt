@@ -4,10 +4,8 @@
 mod cells;
 mod common_prefix;
 mod comparison;
-mod counted;
 mod cursor;
 mod observed;
-mod report;
 mod runs;
 mod same;
 mod turn;
@@ -17,7 +15,6 @@ pub use comparison::{Comparison, DivergencePoint};
 pub use cursor::{End, WriteDivergence};
 pub use observed::{
     Observation, Observed, ObservedComparison, ObservedDivergence, Pair, compare_shown, next_write,
-    none_kept, one_more, push_brief, push_last, push_shown,
+    none_kept, one_more, push_last,
 };
-pub use report::{SideNames, push_comparison};
 pub use runs::compare;

@@ -7,7 +7,6 @@ mod cursor;
 mod next;
 mod observation;
 mod pairing;
-mod report;
 mod runs;
 
 pub use common_prefix::{none_kept, push_last};
@@ -15,5 +14,4 @@ pub use comparison::{ObservedComparison, ObservedDivergence, Pair};
 pub use count::one_more;
 pub use next::next_write;
 pub use observation::{Observation, Observed};
-pub use report::{push_brief, push_shown};
 pub use runs::compare_shown;

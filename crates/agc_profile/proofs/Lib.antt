@@ -7,8 +7,6 @@ mod Sums
 mod Room
 mod Running
 mod Interrupts
-mod Lines
-mod Quotes
 mod Routines
 mod RoutineLaws
 mod Flags

@@ -9,5 +9,3 @@ pub mod Profile
 pub mod Laws
 pub mod Sums
 pub mod Routine
-pub mod Row
-pub mod Report

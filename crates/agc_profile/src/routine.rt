@@ -21,7 +21,7 @@ impl MemoryKind {
     ghost use Rattle.agc_profile.specs.Routine.{bank_size, location_of, size_of, table_of};
 
     /// Returns the number of its places.
-    pub(crate) fn size(self) -> usize
+    pub fn size(self) -> usize
         ensures { result ≡ size_of self }
     {
         match self {
@@ -41,7 +41,7 @@ impl MemoryKind {
     }
 
     /// Returns the location of a place.
-    pub(crate) fn location(self, place: usize) -> Location
+    pub fn location(self, place: usize) -> Location
         requires { place < size_of self }
         ensures { result ≡ location_of self place }
     {
@@ -52,7 +52,7 @@ impl MemoryKind {
     }
 
     /// Returns the orders that ran in it, by their places.
-    pub(crate) fn table(self, counts: &Profile) -> &Table
+    pub fn table(self, counts: &Profile) -> &Table
         ensures { result.now ≡ table_of self counts.now }
     {
         match self {
@@ -64,7 +64,7 @@ impl MemoryKind {
 
 /// Returns the sum of each routine at the place where it begins: the orders of all places that belong to it. Fails if a
 /// number overflows, or out of memory.
-pub(crate) fn sum_routines(
+pub fn sum_routines(
     alloc: Global,
     names: &SymbolTable,
     memory: MemoryKind,
@@ -106,7 +106,7 @@ fn begins(names: &SymbolTable, memory: MemoryKind, place: usize) -> bool
 
 /// Returns whether a place has a name of its own.
 #[tactic(auto, unfolding(crate::specs::Routine::is_named))]
-pub(crate) fn is_named(names: &SymbolTable, at: Location) -> bool
+pub fn is_named(names: &SymbolTable, at: Location) -> bool
     ensures { result ≡ is_named names.now at }
 {
     match names.named_at(at) {

@@ -1,8 +1,0 @@
-use Rattle.std.proofs.Common.{◌≡◌, ◌++◌, take}
-use Rattle.std.specs.Prelude.{flat_map, string_bytes}
-use Rattle.agc_diff.specs.ObservedReport.{pair_text}
-use Rattle.agc_diff.proofs.observed.report.push_pairs.Given as goal
-
--- the lines so far
-abbrev pub invariant-loop-pair : goal.invariant-loop-pair
-invariant-loop-pair l = string_bytes l.text ≡ string_bytes l.initial.text ++ flat_map pair_text (take l.pair-index l.pairs)
