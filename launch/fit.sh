@@ -1,8 +1,9 @@
-# shellcheck shell=bash disable=SC2154,SC1090,SC2034,SC2016 # sourced by scripts that set top (the repository), name and crate
+# shellcheck shell=bash disable=SC2154,SC1090,SC2034,SC2016 # sourced by scripts that set top (the repository) and name
+crate=${name//-/_}
 program=$top/crates/$crate/out/$crate
 shopt -s globstar
 # ready: leaves the path of the program to run in `program`. A program that fits is found without starting a process.
-ready() { { [ -z "${AGC_PREBUILT:-}" ] && is_fit; } || program=$("$top/launch/build" "$name" "$crate"); }
+ready() { { [ -z "${AGC_PREBUILT:-}" ] && is_fit; } || program=$("$top/launch/build" "$name"); }
 # needed: prints the lines of crates.txt for the crates that the program needs. It reads crates.txt from its end, because
 # a crate's line comes after the lines of the crates that it uses.
 needed() {
