@@ -14,21 +14,24 @@ This file stands over the standard library alone. A console is one process, `agc
 call says one command and whose answer it reads to its last line. Cycles are machine cycles, 85,333 a second. Words,
 channels and addresses are Python's integers here (0o54171); a place may be the console's own text, too ("E3,1400").
 What the console refuses is a `Refused`, and what the process itself says as it ends an `Ended`; a call that is broken
-off, as by a time-out, ends the console. `script` still returns the session's script after that. A console is to be used
-by one thread at a time. Start `agc-console --help` once before, so that it is built.
+off, as by a time-out, ends the console. `script` still returns the session's script after that. A loop with many events is
+faster after `defer`: they then go to the console with the next other command. A console is to be used by one thread at a
+time; only `kill` is for any. Start `agc-console --help` once before, so that it is built.
 """
 
+import contextlib
 import heapq
 import os
 import shutil
+import signal
 import subprocess
 import tempfile
 from types import TracebackType
-from typing import IO, Callable, Dict, Iterator, List, NamedTuple, Optional, Sequence, Type, Union
+from typing import IO, Callable, Dict, Iterator, List, NamedTuple, Optional, Sequence, Tuple, Type, Union
 
 __all__ = [
-    "Answer", "Breakpoint", "Came", "Console", "Ended", "Error", "Hit", "Location", "Number", "Refused", "Registers", "Where",
-    "Write",
+    "Answer", "Breakpoint", "Came", "Console", "Ended", "Error", "Hit", "Location", "NotSaved", "Number", "Refused", "Registers",
+    "Where", "Write",
 ]
 
 __version__ = "1.0.0"
@@ -45,6 +48,19 @@ also "LOOP", or some words beyond or before it, "LOOP+3"."""
 LAST_CYCLE = 1_000_000_000_000
 """The last cycle of all: a machine without a limit stops there."""
 
+LONGEST_ROPE = 1 << 20
+MOST_AT_ONCE = 200  # commands of 120 bytes at most, which a pipe takes
+"""More bytes than any rope has."""
+
+CLOSING = 5
+"""The seconds that a console may take to end before it is killed."""
+
+MOST_WAITING = 1000
+"""The events that may wait, after `defer`: their commands and answers fit into a pipe."""
+
+SURE_EVENTS = 60_000
+"""Up to this many events, a session surely has room. Later ones are sent one by one, because each may be refused."""
+
 
 class Error(Exception):
     """What went wrong with a console."""
@@ -55,6 +71,11 @@ class Refused(Error):
     script that were due have happened; if memory ran out in `go`, `step` or `until`, the machine may have run further,
     and some writes are not reported. `cycle` is right again after the next answer."""
 
+    def __init__(self, sentence: str, name: str = "") -> None:
+        super().__init__(sentence)
+        self.name = name
+        """The name of the fault, as docs/CONSOLE.md lists them: "NotHit", "BadPlace"; "memory" if memory ran out."""
+
 
 class Ended(Error):
     """The console has ended, or never began: there is no such program, its rope, its script or its limit is refused, it
@@ -64,6 +85,10 @@ class Ended(Error):
         super().__init__(message)
         self.status = status
         """The status with which the process ended; None if it never began."""
+
+
+class NotSaved(Error):
+    """The script could not be written to a file, of which nothing is left."""
 
 
 class Write(NamedTuple):
@@ -167,6 +192,8 @@ class Console:
         show beside the places of orders in what `step` and `next` return. A `detached` console does not see a Control-C
         in the terminal: its caller ends it."""
         self.rope, self._options = rope, {"limit": limit, "form": form, "names": names, "program": program}
+        self.rope_bytes = _bytes_of(rope)
+        """The bytes of the rope as the session began; None if it is no regular file."""
         words = _program(program)
         if limit is not None:
             words.append(f"--limit={limit}")
@@ -175,18 +202,18 @@ class Console:
         if names is not None:
             words.append(f"--names={os.fspath(names)}")
         words += ["--", os.fspath(rope), os.fspath(script)]
-        self.cycle = 0
-        """The cycle that the machine has reached, from the last answer."""
-        self.stop: Optional[str] = None
-        """Why the machine has stopped: Limit, DivisionUndefined or Edrupt; None while it runs."""
+        self._cycle = 0
+        self._stop: Optional[str] = None
+        self._is_deferring = False
+        self._waiting: List[str] = []
         self.on_answer: Optional[Callable[[str, Answer], None]] = None
         """Called with each command and its answer, if set; not for refused commands."""
         self._quiet = False
         self._owner = os.getpid()
         self._base: List[Event] = []
         self._injected: List[Event] = []
-        # A file takes standard error, because a full pipe would block the console.
-        self._errors = tempfile.TemporaryFile()
+        self._is_detached = detached
+        self._errors = _message_file()
         try:
             self._process = subprocess.Popen(
                 words, stdin=subprocess.PIPE, stdout=subprocess.PIPE, stderr=self._errors, start_new_session=detached
@@ -211,8 +238,23 @@ class Console:
     ) -> None:
         self.close()
 
+    @property
+    def cycle(self) -> int:
+        """The cycle that the machine has reached, from the last answer."""
+        self._send_waiting()
+        return self._cycle
+
+    @property
+    def stop(self) -> Optional[str]:
+        """Why the machine has stopped: Limit, DivisionUndefined or Edrupt; None while it runs."""
+        self._send_waiting()
+        return self._stop
+
     def close(self) -> None:
         """Ends the session. A second call does nothing. `script` still returns the script afterwards."""
+        if os.getpid() == self._owner:
+            with contextlib.suppress(Error):
+                self._send_waiting()
         try:
             # A child that was forked keeps the pipe open, so that the console would wait for more commands. The child
             # itself ends nothing: the session belongs to the process that began it.
@@ -222,12 +264,38 @@ class Console:
         except BrokenPipeError:
             pass
         self._answers.close()
-        self._process.wait()
+        try:
+            self._process.wait(CLOSING)
+        except subprocess.TimeoutExpired:
+            self.kill()
+            self._process.wait()
         self._errors.close()
 
+    def kill(self) -> None:
+        """Ends the process at once. It may be called by any thread: a call that waits for an answer raises `Ended`."""
+        with contextlib.suppress(OSError):  # it has just ended
+            if self._process.poll() is not None:
+                return
+            if self._is_detached and hasattr(os, "killpg"):
+                os.killpg(self._process.pid, signal.SIGKILL)  # with what its launcher has started
+            else:
+                self._process.kill()
+
     def again(self, script: Path = os.devnull) -> "Console":
-        """Begins another console of the same rope, with the same options, at cycle 0. The script is not taken along."""
-        return Console(self.rope, script, detached=True, **self._options)  # type: ignore[arg-type]
+        """Begins another console of the same rope, with the same options, at cycle 0. The script is not taken along. The
+        rope is as this session began with it, even if its file has changed since."""
+        if self.rope_bytes is None:
+            return Console(self.rope, script, detached=True, **self._options)  # type: ignore[arg-type]
+        try:
+            with tempfile.TemporaryDirectory() as folder:
+                copy = os.path.join(folder, "rope")
+                with open(copy, "wb") as file:
+                    file.write(self.rope_bytes)
+                other = Console(copy, script, detached=True, **self._options)  # type: ignore[arg-type]
+        except OSError as error:
+            raise Ended(f"no copy of the rope for another console: {error.strerror or error}", None) from None
+        other.rope = self.rope
+        return other
 
     @property
     def alive(self) -> bool:
@@ -236,7 +304,8 @@ class Console:
 
     def _break_off(self) -> None:
         """Ends a console whose answer was not read to its end: what comes next would be taken for another's."""
-        self._process.kill()
+        self._waiting = []
+        self.kill()
         self.close()
 
     # what all commands go through
@@ -244,12 +313,14 @@ class Console:
     def say(self, command: str) -> Answer:
         """Says a command, as docs/CONSOLE.md has them, and returns its answer; `Refused` if that is an error."""
         line = _line(command)
+        waiting, self._waiting = self._waiting, []
         if self._commands.closed:
             raise Ended("the console is closed", self._process.returncode)
         try:
-            self._commands.write(line)
+            self._commands.write("".join([f"{event}\n" for event in waiting]).encode() + line if waiting else line)
             self._commands.flush()
-            answer = self._answer()
+            refused = self._take_waiting(waiting) if waiting else None
+            answer = Answer(self._answer(), self._cycle, self._stop)
             self._keep(command.split(), answer)
         except BrokenPipeError:
             raise self._ended() from None
@@ -258,42 +329,119 @@ class Console:
         except BaseException:
             self._break_off()
             raise
+        if refused is not None:
+            raise refused
         if self.on_answer is not None:
             self.on_answer(command, answer)
         return answer
 
+    def say_all(self, commands: Sequence[str]) -> List[Answer]:
+        """Says commands at once, which is quicker than one after another, and returns their answers. If some are refused,
+        the others are done all the same, and the first refusal is raised at the end."""
+        self._send_waiting()
+        answers: List[Answer] = []
+        refusals: List[Refused] = []
+        for first in range(0, len(commands), MOST_AT_ONCE):
+            self._say_some(commands[first:first + MOST_AT_ONCE], answers, refusals)
+        if refusals:
+            raise refusals[0]
+        return answers
+
+    def _say_some(self, commands: Sequence[str], answers: List[Answer], refusals: List[Refused]) -> None:
+        """Says a few commands at once: they fit into a pipe, so that the console never waits for us as we write."""
+        lines = b"".join(map(_line, commands))
+        if self._commands.closed:
+            raise Ended("the console is closed", self._process.returncode)
+        done: List[Tuple[str, Answer]] = []
+        try:
+            self._commands.write(lines)
+            self._commands.flush()
+            for command in commands:
+                try:
+                    done.append((command, Answer(self._answer(), self._cycle, self._stop)))
+                except Refused as refused:
+                    refusals.append(refused)
+                else:
+                    self._keep(command.split(), done[-1][1])
+        except BrokenPipeError:
+            raise self._ended() from None
+        except Error:
+            raise
+        except BaseException:
+            self._break_off()
+            raise
+        for command, answer in done:
+            answers.append(answer)
+            if self.on_answer is not None:
+                self.on_answer(command, answer)
+
+    def _take_waiting(self, commands: List[str]) -> Optional[Refused]:
+        """Reads the answers to events that have waited. Returns why the first of the refused ones was refused."""
+        first = None
+        for command in commands:
+            try:
+                self._answer()
+            except Refused as refused:
+                first = first or refused
+                continue
+            self._keep_event(command, self._cycle)
+            if self.on_answer is not None:
+                self.on_answer(command, Answer([], self._cycle, self._stop))
+        return first
+
+    def _send_waiting(self) -> None:
+        """Sends the events that wait."""
+        if self._waiting:
+            self.say(self._waiting.pop())
+
+    def _inject(self, command: str) -> None:
+        """Injects an event: with the next command, if events are deferred and there is surely room for this one."""
+        if self._is_deferring and command.isascii() and "\n" not in command and self._has_room():
+            self._waiting.append(command)
+        else:
+            self.say(command)
+
+    def _has_room(self) -> bool:
+        """Whether the console will not refuse one more event for want of room, or because the machine has stopped."""
+        waiting = len(self._waiting)
+        return waiting < MOST_WAITING and len(self._base) + len(self._injected) + waiting < SURE_EVENTS and self._stop is None
+
     def _keep(self, words: List[str], answer: Answer) -> None:
         """Keeps what the script of the session is made of, so that it is available after the console has ended, too."""
         if words[0] in EVENTS:
-            cost = 1 if words[0] == "pulse" else 0
-            cycle = answer.cycle - cost
-            self._injected.append(Event(cycle, f"{cycle} {' '.join(words)}"))
+            self._keep_event(" ".join(words), answer.cycle)
         elif words[0] == "back":
             # only `back C` drops the events at the cycle
-            last = answer.cycle if words[1] in ("until", "step") else answer.cycle - 1
+            way = words[2:] if words[1] == "list" else words[1:]
+            last = answer.cycle if way[0] in ("until", "step") else answer.cycle - 1
             self._injected = [event for event in self._injected if event.cycle <= last]
         elif words[0] == "quiet":
             self._quiet = words[1:] != ["off"]
 
-    def _answer(self) -> Answer:
-        lines = []
+    def _keep_event(self, command: str, after: int) -> None:
+        """Keeps an event, after which the machine has come to a cycle."""
+        cycle = after - 1 if command.startswith("pulse") else after
+        self._injected.append(Event(cycle, f"{cycle} {command}"))
+
+    def _answer(self) -> List[str]:
+        """Reads an answer. Returns its lines but for the last, which says the cycle and the stop."""
+        lines: List[str] = []
         while True:
             line = self._answers.readline()
-            if not line.endswith(b"\n"):
+            if line[-1:] != b"\n":
                 raise self._ended()
+            if line[:3] == b"at ":
+                self._cycle, self._stop = int(line[3:]), None
+                return lines
             text = line[:-1].decode()
             first, _, rest = text.partition(" ")
-            if first == "at":
-                self.cycle, self.stop = int(rest), None
-            elif first == "stop":
-                self.stop, _, cycle = rest.partition(" at ")
-                self.cycle = int(cycle)
-            elif first == "error:":
-                raise Refused(rest)
-            else:
-                lines.append(text)
-                continue
-            return Answer(lines, self.cycle, self.stop)
+            if first == "stop":
+                self._stop, _, cycle = rest.partition(" at ")
+                self._cycle = int(cycle)
+                return lines
+            if first == "error:":
+                raise _refused(rest)
+            lines.append(text)
 
     def _ended(self) -> Ended:
         status = self._process.wait()
@@ -398,9 +546,10 @@ class Console:
                 came = self.until_write(channel, min(left, 1_000_000))
                 yield from (write for write in came.writes if write.channel == channel)
 
-    def back(self, cycle: int) -> None:
-        """Goes back to the state before a cycle that is not ahead. Events injected from it on are dropped."""
-        self.say(f"back {cycle}")
+    def back(self, cycle: int, *, dropped: bool = False) -> List[str]:
+        """Goes back to the state before a cycle that is not ahead. Events injected from it on are dropped; with `dropped`
+        it returns their lines, as in `script`."""
+        return self.say(f"back list {cycle}" if dropped else f"back {cycle}").lines
 
     def back_until(self, place: Place) -> bool:
         """Goes back to the last time that the order at a place was in hand. The methods `back_until_..` and `back_step` drop
@@ -431,38 +580,47 @@ class Console:
         try:
             self.say(f"back {what}")
         except Refused as refused:
-            if str(refused).startswith("NotHit:"):
+            if refused.name == "NotHit":
                 return False
             raise
         return True
 
     # what happens to the machine, now
 
+    def defer(self, on: bool = True) -> None:
+        """From now on the events of the methods below wait for the next other call, and go to the console with its command:
+        many events cost one exchange. `defer(False)` ends that. What is injected is the same. But an event that is refused
+        raises `Refused` from that other call, whose command has happened all the same."""
+        if not isinstance(on, bool):
+            raise TypeError("deferred or not: True or False")
+        self._send_waiting()
+        self._is_deferring = on and self._options["limit"] is None
+
     def key(self, name: str) -> None:
         """A key goes down: "0" to "9", "+", "-", "VERB", "NOUN", "ENTR", "CLR", "RSET" or "KEYREL"."""
-        self.say(f"key {name}")
+        self._inject(f"key {name}")
 
     def pro(self, down: bool) -> None:
         """The PRO key goes down (True), or comes up (False)."""
         if not isinstance(down, bool):
             raise TypeError("PRO is down or not: True or False")
-        self.say("pro down" if down else "pro up")
+        self._inject("pro down" if down else "pro up")
 
     def input(self, channel: int, word: int) -> None:
         """A channel takes a word from outside."""
-        self.say(f"input {channel:o} {word:05o}")
+        self._inject(f"input {channel:o} {word:05o}")
 
     def pulse(self, counter: int, kind: str) -> None:
         """A counter is pulsed: pinc, minc, pcdu, mcdu, shinc or shanc. It costs a cycle."""
-        self.say(f"pulse {counter:o} {kind}")
+        self._inject(f"pulse {counter:o} {kind}")
 
     def raise_interrupt(self, number: int) -> None:
         """The interrupt with this number, 1 to 10, is requested."""
-        self.say(f"raise {number}")
+        self._inject(f"raise {number}")
 
     def poke(self, bank: int, offset: int, word: int) -> None:
         """A cell of an erasable bank takes a word."""
-        self.say(f"poke {bank:o} {offset:o} {word:05o}")
+        self._inject(f"poke {bank:o} {offset:o} {word:05o}")
 
     # what can be seen
 
@@ -473,7 +631,7 @@ class Console:
     def tables(self, spec: str) -> List[str]:
         """The lines of the Executive's tables, of which the spec is that of `agc --watch`."""
         if spec.count(",") < 2:  # the console would take it for the place of a breakpoint
-            raise Refused("BadSpec: tables are seven octal numbers with commas between")
+            raise Refused("tables are seven octal numbers with commas between", "BadSpec")
         return self.say(f"watch {spec}").lines
 
     def registers(self) -> Registers:
@@ -483,6 +641,10 @@ class Console:
     def next(self) -> str:
         """What comes next, in a trace's words: "4000 14000 TCF 4000", or "- interrupt KEYRUPT1"."""
         return self.say("next").lines[0].split(" ", 1)[1]
+
+    def ahead(self, boundaries: int = 1) -> List[str]:
+        """Returns the trace lines of the coming boundaries, as `step` would print them. None is taken."""
+        return self.say(f"ahead {boundaries}").lines
 
     def where(self) -> Where:
         """Where the program is. Names need a file of names."""
@@ -506,6 +668,11 @@ class Console:
         """The word of a channel."""
         return int(self.say(f"channel {channel:o}").lines[0].rsplit(" ", 1)[1], 8)
 
+    def channels(self, channels: Sequence[int]) -> List[int]:
+        """Returns the words of some channels."""
+        answers = self.say_all([f"channel {channel:o}" for channel in channels])
+        return [int(answer.lines[0].split()[2], 8) for answer in answers]
+
     def count_of_writes(self) -> int:
         """How many channel writes there were."""
         return int(self.say("writes").lines[0].split()[1])
@@ -521,10 +688,21 @@ class Console:
         return "".join(line + "\n" for line in lines)
 
     def save(self, file: Path) -> None:
-        """Writes `script` to a new file. If there is such a file, FileExistsError is raised, and it stays as it is."""
+        """Writes `script` to a new file. If there is such a file, FileExistsError is raised, and it stays as it is. If it
+        cannot be written whole, as on a full disk, `NotSaved` is raised, and there is no such file."""
         script = self.script()
-        with open(file, "x", encoding="ascii") as saved:
-            saved.write(script)
+        try:
+            with open(file, "x", encoding="ascii") as saved:
+                try:
+                    saved.write(script)
+                    saved.flush()
+                except BaseException:
+                    os.unlink(file)
+                    raise
+        except FileExistsError:
+            raise
+        except OSError as error:
+            raise NotSaved(f"{os.fspath(file)}: {error.strerror}") from None
 
 
 def _line(command: str) -> bytes:
@@ -537,9 +715,39 @@ def _line(command: str) -> bytes:
         raise ValueError(f"no command: {command!r}") from None
 
 
+def _bytes_of(rope: Path) -> Optional[bytes]:
+    """Returns the bytes of a rope's file; None if it is no regular file, or if the console will refuse it."""
+    try:
+        if os.path.isfile(rope) and os.path.getsize(rope) <= LONGEST_ROPE:
+            with open(rope, "rb") as file:
+                return file.read()
+    except OSError:
+        pass
+    return None
+
+
+def _message_file() -> IO[bytes]:
+    """Returns a file for what a console says on standard error, because a full pipe would block it. It is in memory, if
+    there are such files, so that a full disk is no hindrance."""
+    try:
+        if hasattr(os, "memfd_create"):
+            return open(os.memfd_create("agc-console"), "w+b")
+        return tempfile.TemporaryFile()
+    except OSError as error:
+        raise Ended(f"there is no file for the console's messages: {error.strerror or error}", None) from None
+
+
 def _event_of(line: str) -> Event:
     """An event from a line of the script."""
     return Event(int(line.split(" ", 1)[0]), line)
+
+
+def _refused(reason: str) -> Refused:
+    """The exception for an error: "NotHit: no boundary before now hits it", or "memory"."""
+    name, colon, sentence = reason.partition(": ")
+    if not colon:
+        return Refused(f"out of {name}", name)
+    return Refused(f"usage: {sentence}" if name == "Usage" else sentence, name)
 
 
 def _place(place: Place) -> str:
@@ -565,7 +773,7 @@ def _breakpoint(line: str) -> Breakpoint:
 
 def _writes(answer: Answer) -> List[Write]:
     """The channel writes of an answer."""
-    found = []
+    found: List[Write] = []
     for line in answer.lines:
         if line.startswith("write "):
             _, cycle, channel, value = line.split(" ")

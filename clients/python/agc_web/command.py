@@ -3,20 +3,27 @@
 import argparse
 import errno
 import os
-import shlex
-import shutil
-import signal
+import socket
 import sys
+import threading
 import webbrowser
-from typing import Any, Callable, Dict, List, Optional, Sequence
+from contextlib import suppress
+from typing import Any, Callable, Dict, List, Optional, Sequence, Tuple
 
 import agc
-from agc_web.server import Server, film_by
-from agc_web.session import HISTORY, SPEEDS, Session
+from agc_web.beside import guide_text, opened
+from agc_web.clock import SPEEDS
+from agc_web.ending import UNSAVED, Ending
+from agc_web.film import Films
+from agc_web.journal import Repeat
+from agc_web.rewinder import HISTORY
+from agc_web.saving import ScriptFile, print_out, save_or_print, study
+from agc_web.server import HERE, Server, is_reachable
+from agc_web.session import Session
 
 PORT = 8437
 MOST_NAMES = 5000  # that the page offers
-ENDS = (signal.SIGINT, signal.SIGTERM, signal.SIGHUP)  # Control-C, and the terminal's end
+SAVED, REFUSED = 0, 1  # statuses; UNSAVED is the third
 
 
 def serve(
@@ -24,8 +31,10 @@ def serve(
     instruments: Sequence[Any] = (),
     *,
     port: Optional[int] = None,
+    listen: str = HERE,
     watch: Optional[str] = None,
     names: Optional[str] = None,
+    guide: Optional[str] = None,
     form: Optional[str] = None,
     save: Optional[str] = None,
     open_page: bool = False,
@@ -34,80 +43,88 @@ def serve(
     """Serves the page of a console until Control-C, SIGTERM or the terminal's end, and returns the script that repeats the
     session.
 
-    The console is at cycle 0, and `detached`. `instruments` are described in agc_web.session. The port is 8437, or
-    a free one if that is taken and none is named. `begin` is called with the session before time can run. Raises
-    `OSError` if the port cannot be had, or if the script cannot be saved or would replace something."""
-    if save is not None:
-        _check_free(save)
-    session = Session(console, instruments, watch)
-    before = {number: signal.getsignal(number) for number in ENDS}
-    try:
-        film = film_by([_study()], os.fspath(console.rope), form) if _study() else None
-        server = _bound(session, _about(console, names, watch), port, film)
-        if begin is not None:
-            begin(session)
-        _wait(server, open_page)
-        script = session.script()
-        _tell(script, save, os.fspath(console.rope), form, session.limit_to_repeat())
-        return script
-    finally:
-        session.close()
-        for number, handler in before.items():
-            if signal.getsignal(number) != handler:
-                signal.signal(number, handler)
+    The console is at cycle 0, and `detached`. `instruments` are described in agc_web.ticks. The port is 8437, or
+    a free one if that is taken and none is named. `listen` is the
+    address, which other computers may reach: then the page has the printed address in large letters. `guide` is the text of
+    guided steps. `begin` is called with the session before time can run. Raises
+    `OSError` if the port cannot be had, or if the script cannot be saved or would replace something; its `filename` says
+    which of them. A signal that comes after the script was saved or printed ends the program at once."""
+    file = ScriptFile(save) if save is not None else None
+    with Ending() as ending:
+        session = Session(console, instruments, watch)
+        films = Films(study(), console, form)
+        ending.kill = lambda: _kill(console, films)
+        server = None
+        try:
+            server = _bound(session, _about(console, names, watch, guide), port, films, listen)
+            if begin is not None:
+                begin(session)
+            server.start()
+            _show(server, open_page)
+            ending.wait()
+            repeat = session.repeat()
+            _leave(ending, repeat, file, os.fspath(console.rope), form)
+            return repeat.script
+        finally:
+            _close(server, session, films)
 
 
 def main(words: Optional[List[str]] = None) -> int:
     """Runs the command. Returns its status: 0 after Control-C, 1 if a file is refused, 3 if the script was not saved."""
     asked = _arguments().parse_args(words)
     try:
-        if asked.save and not _is_free(asked.save):
-            print(f"agc-web: {asked.save} has something in it: name another file", file=sys.stderr)
-            return 1
-        with agc.Console(asked.rope, asked.script, form=asked.form, names=asked.names, detached=True) as console:
-            if asked.watch is not None:
-                console.tables(asked.watch)
+        if asked.save is not None:
+            ScriptFile(asked.save)
+        guide = guide_text(asked.guide, asked.rope, _say)
+    except OSError as error:
+        return _refused(f"{error.filename}: {error.strerror}", REFUSED)
+    try:
+        start = lambda names: agc.Console(asked.rope, asked.script, form=asked.form, names=names, detached=True)
+        console, found = opened(start, asked.names, asked.watch, asked.rope, _say)
+        with console:
             serve(
-                console, port=asked.port, watch=asked.watch, names=asked.names, form=asked.form, save=asked.save,
-                open_page=asked.open, begin=_attached(asked.instruments),
+                console, port=asked.port, watch=found.watch, names=found.names, guide=guide, form=asked.form,
+                save=asked.save, open_page=asked.open, listen=asked.listen, begin=attached(asked.instruments, asked.listen),
             )
     except agc.Error as error:
-        text = str(error)
-        print(text.replace("agc-console: ", "agc-web: ", 1) if "agc-console: " in text else f"agc-web: {text}", file=sys.stderr)
-        return 1
+        return _refused(str(error).replace("agc-console: ", "", 1), REFUSED)
     except OSError as error:
-        print(f"agc-web: {'port' if error.filename is None else error.filename}: {error.strerror}", file=sys.stderr)
-        return 3
-    return 0
+        place = "" if error.filename is None else f"{error.filename}: "
+        return _refused(f"{place}{error.strerror or error}", UNSAVED)
+    except KeyboardInterrupt:  # before there was a session, or after it was saved
+        pass
+    return SAVED
 
 
-def _is_free(path: str) -> bool:
-    """Makes a file, unless it is there; returns whether there is nothing in it."""
-    with open(path, "a", encoding="ascii"):
-        return os.path.getsize(path) == 0
+def _refused(reason: str, status: int) -> int:
+    """Says why the program ends, and returns its status."""
+    _say(reason)
+    return status
 
 
-def _check_free(path: str) -> None:
-    """Raises `OSError` if the script cannot be saved to a file, or would write over something."""
-    if not _is_free(path):
-        raise FileExistsError(errno.EEXIST, "has something in it: name another file", path)
+def _say(text: str) -> None:
+    """Says something to the user in the terminal."""
+    with suppress(OSError):  # a full disk, if that is a file
+        print(f"agc-web: {text}", file=sys.stderr)
 
 
 def _arguments() -> argparse.ArgumentParser:
     words = argparse.ArgumentParser(prog="agc-web", description="Shows the DSKY and the inside of the machine in a browser.")
     words.add_argument("rope", metavar="ROPE", help="the core rope")
     words.add_argument("script", metavar="SCRIPT", nargs="?", default=os.devnull, help="a script of events (none)")
-    words.add_argument("--names", metavar="FILE", help="a file that gives places names")
-    words.add_argument("--watch", metavar="SPEC", help="where the Executive's tables stand, as for agc")
+    words.add_argument("--names", metavar="FILE", help="a file that gives places names (ROPE.names, or names beside a file rope)")
+    words.add_argument("--watch", metavar="SPEC", help="where the Executive's tables stand, as for agc (the file ROPE.watch, or watch)")
+    words.add_argument("--guide", metavar="FILE", help="a file of guided steps (ROPE.guide, or guide beside a file rope)")
     words.add_argument("--form", metavar="FORM", choices=("classic", "parity"), help="the rope's form: classic or parity")
-    words.add_argument("--port", metavar="N", type=int, help=f"the port on 127.0.0.1 ({PORT}, or a free one)")
+    words.add_argument("--port", metavar="N", type=int, help=f"the port ({PORT}, or a free one)")
+    words.add_argument("--listen", metavar="ADDRESS", default=HERE, help=f"the address of page and instruments ({HERE})")
     words.add_argument("--save", metavar="FILE", help="where the script of the session is saved at the end")
     words.add_argument("--open", action="store_true", help="open the page in a browser")
     words.add_argument("--instruments", metavar="PORT", type=int, help="serve instruments of Virtual AGC from this port on")
     return words
 
 
-def _attached(port: Optional[int]) -> Optional[Callable[[Session], Any]]:
+def attached(port: Optional[int], listen: str = HERE) -> Optional[Callable[[Session], Any]]:
     """Returns what attaches the sockets of other programs' instruments, if there is a port for them."""
     if port is None:
         return None
@@ -116,91 +133,79 @@ def _attached(port: Optional[int]) -> Optional[Callable[[Session], Any]]:
     except ImportError:
         print("agc-web: --instruments needs agc_web/instruments.py, which is not here", file=sys.stderr)
         sys.exit(2)
-    return lambda session: instruments.attach(session, port)
+    first = port
+    if is_reachable(listen):
+        _say(f"warning: whoever reaches {listen} can use the machine by the instruments' ports: they know no passwords")
+    return lambda session: instruments.attach(session, first, listen)
 
 
-def _study() -> Optional[str]:
-    """Returns the program agc-study: the one in the folder of the client, two levels up, or the one on the path."""
-    beside = os.path.join(os.path.dirname(os.path.realpath(agc.__file__)), "..", "..", "agc-study")
-    return os.path.normpath(beside) if os.access(beside, os.X_OK) else shutil.which("agc-study")
-
-
-def shell_agc() -> str:
-    """Returns how the shell here starts the program agc: the one in the folder of the client, two levels up, or the one on
-    the path."""
-    beside = os.path.normpath(os.path.join(os.path.dirname(os.path.realpath(agc.__file__)), "..", "..", "agc"))
-    if not os.access(beside, os.X_OK):
-        return "agc"
-    return "./agc" if os.path.exists("agc") and os.path.samefile("agc", beside) else shlex.quote(beside)
-
-
-def _about(console: agc.Console, names: Optional[str], watch: Optional[str]) -> Dict[str, Any]:
+def _about(console: agc.Console, names: Optional[str], watch: Optional[str], guide: Optional[str]) -> Dict[str, Any]:
     """Returns the first message to the page."""
+    places = _places_in(names)
     return {
-        "rope": os.fspath(console.rope), "names": _names_in(names), "watch": watch, "speeds": SPEEDS, "history": HISTORY,
+        "rope": os.fspath(console.rope), "names": [name for _, name in places], "places": [place for place, _ in places],
+        "watch": watch, "speeds": SPEEDS, "history": HISTORY, "guide": guide,
     }
 
 
-def _names_in(file: Optional[str]) -> List[str]:
-    """Returns the names of places in a file of names; those of channels begin with C."""
+def _places_in(file: Optional[str]) -> List[Tuple[str, str]]:
+    """Returns the places in a file of names, and their names; channels, whose numbers begin with C, are left out."""
     if file is None:
         return []
     with open(file, encoding="ascii", errors="replace") as lines:
         words = [line.split() for line in lines]
-    return [each[1] for each in words if len(each) > 1 and each[0][0] not in "#C"][:MOST_NAMES]
+    return [(each[0], each[1]) for each in words if len(each) > 1 and each[0][0] not in "#C"][:MOST_NAMES]
 
 
-def _bound(
-    session: Session, about: Dict[str, Any], port: Optional[int], film: Optional[Callable[[str, int], bytes]]
-) -> Server:
-    """Returns a server on a port, or on a free one if none is named and ours is taken."""
+def _bound(session: Session, about: Dict[str, Any], port: Optional[int], films: Films, listen: str) -> Server:
+    """Returns a server on a port, or on a free one if none is named and ours is taken. Raises `OSError`, which names the
+    port or the address as its file."""
     try:
-        return Server(session, about, PORT if port is None else port, film)
+        return Server(session, about, PORT if port is None else port, films, listen)
     except OverflowError:
-        raise OSError(errno.EINVAL, "ports are 0 to 65535") from None
-    except OSError:
+        raise OSError(errno.EINVAL, "ports are 0 to 65535", "port") from None
+    except OSError as error:
+        if isinstance(error, socket.gaierror) or error.errno == errno.EADDRNOTAVAIL:
+            raise OSError(error.errno or 0, "is no address of this computer", listen) from None
         if port is not None:
-            raise
-        return Server(session, about, 0, film)
+            raise OSError(error.errno or 0, error.strerror or str(error), "port") from None
+        return Server(session, about, 0, films, listen)
 
 
-def _wait(server: Server, open_page: bool) -> None:
-    """Prints the address, and serves until one of the signals that end it. A signal that is ignored, such as a hang-up with
-    nohup, stays ignored."""
+def _show(server: Server, open_page: bool) -> None:
+    """Prints the address, and opens the page by an address of its own: other users of this computer see the words with
+    which a browser is started."""
+    if "phones" in server.about:
+        _say("warning: plain HTTP: whoever listens on the network can read the address, and use the machine")
+        print_out(f"{server.address}    (Control-C ends it)\n\n    On the phones of this network:\n\n    {server.address}\n\n")
+    else:
+        print_out(f"{server.address}    (Control-C ends it)\n")
+    if open_page:
+        threading.Thread(target=webbrowser.open, args=(server.address_for_once(),), daemon=True).start()
 
-    def end(number: int, frame: Any) -> None:
-        for each in ENDS:
-            signal.signal(each, signal.SIG_IGN)  # a second one does not keep the script from being saved
-        raise KeyboardInterrupt
 
-    for each in ENDS:
-        if signal.getsignal(each) != signal.SIG_IGN:
-            signal.signal(each, end)
+def _leave(ending: Ending, repeat: Repeat, file: Optional[ScriptFile], rope: str, form: Optional[str]) -> None:
+    """Saves or prints the script, before anything else is ended."""
+    status = UNSAVED
     try:
-        print(f"{server.address}    (Control-C ends it)", flush=True)
-        if open_page:
-            webbrowser.open(server.address)
-        server.serve_forever(poll_interval=0.2)
-    except KeyboardInterrupt:
-        try:
-            print()
-        except OSError:
-            pass  # the terminal is gone
+        with suppress(OSError):  # the terminal is gone
+            print(flush=True)
+        save_or_print(repeat, file, rope, form)
+        status = SAVED
     finally:
-        server.server_close()
+        ending.saved(status)
 
 
-def _tell(script: str, save: Optional[str], rope: str, form: Optional[str], limit: int) -> None:
-    """Saves the script, or prints it, and says how to run it again."""
-    if save is None:
-        print(script, end="")
-        return
-    try:
-        _check_free(save)  # another session may have saved there
-        with open(save, "w", encoding="ascii") as file:
-            file.write(script)
-    except OSError:
-        print(script, end="")  # so that nothing is lost
-        raise
-    options = f" --form {form}" if form else ""
-    print(f"{shell_agc()} {shlex.quote(rope)} {shlex.quote(save)} --limit {limit}{options}")
+def _close(server: Optional[Server], session: Session, films: Films) -> None:
+    """Ends all that a session has started."""
+    films.kill()
+    session.close()
+    if server is not None:
+        server.stop()
+    films.close()
+
+
+def _kill(console: agc.Console, films: Films) -> None:
+    """Kills the processes that a session has started."""
+    console.kill()
+    films.kill()

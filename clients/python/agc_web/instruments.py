@@ -14,21 +14,21 @@ import argparse
 import ipaddress
 import os
 import selectors
-import shlex
-import signal
 import socket
 import sys
 import tempfile
 import threading
 import time
 from collections import deque
+from contextlib import suppress
 from functools import partial
 from typing import Callable, Deque, Dict, List, NamedTuple, Optional, Tuple
 
 from agc import LAST_CYCLE, Console, Ended, Error, Refused, Write
 from agc_web import protocol
-from agc_web.command import shell_agc
-from agc_web.protocol import Board, Inexpressible, Packet, PacketReader
+from agc_web.ending import Ending
+from agc_web.protocol import Board, Inexpressible, OutOfStep, Packet, PacketReader
+from agc_web.saving import ScriptFile, save_or_print
 from agc_web.session import KEY_GAP, SPEEDS, Session, Unable
 
 PORT = 19697
@@ -40,7 +40,6 @@ CHUNK = 65_536  # bytes that are taken from a client at once: more than it may s
 SLICE = 200  # inputs that the machine takes at once
 ALLOWANCE = 10_000  # what a client may spend a second: a pulse or a mask costs 1
 INPUT_COST = 10  # of any other input
-MOST_SKIPPED = 32  # bytes out of step
 MOST_UNSENT = 65_536  # packets that wait for a client
 MOST_KEYS = 64  # keys of a client that wait for the machine
 HALFWAY = 5.0  # seconds for which a client may leave a packet half sent
@@ -127,9 +126,14 @@ class Client:
         self._halfway_since = now
 
     def inputs(self, data: bytes, now: float) -> List[Input]:
-        """Takes bytes from the client, keeps its masks, and returns its inputs. Raises `Fault` if it misbehaves."""
+        """Takes bytes from the client, keeps its masks, and returns its inputs. Raises `Fault` if it misbehaves: then no
+        input of these bytes acts. So a page of a browser, whose request begins with a letter, does nothing here."""
         found = []
-        for packet in self._reader.feed(data):
+        try:
+            packets = self._reader.feed(data)
+        except OutOfStep:
+            raise Fault("it sends rubbish") from None
+        for packet in packets:
             entry = Input(packet.channel, packet.word, self._masks.get(packet.channel, protocol.ALL_BITS))
             if not self._budget.spend(1 if packet.is_mask else entry.cost, now):
                 raise Fault("it floods the machine")
@@ -137,8 +141,6 @@ class Client:
                 self._masks[packet.channel] = packet.word
             else:
                 found.append(entry)
-        if self._reader.skipped > MOST_SKIPPED:
-            raise Fault("it sends rubbish")
         self._halfway_since = now
         return found
 
@@ -186,6 +188,8 @@ class Desk:
         self._board = Board()
         self._seen = 0
         """How many of the machine's writes are on the board."""
+        self._search: Optional[List[Write]] = None
+        """The writes since a search began for what is on the board; None if there is no search."""
         self._lamps = 0
         self._clients: Tuple[Client, ...] = ()
         self._keys: Dict[int, Keys] = {protocol.KEYBOARD: deque(), protocol.SECOND_KEYBOARD: deque()}
@@ -193,12 +197,16 @@ class Desk:
     def begin(self, console: Console) -> None:
         """Listens to the machine's writes from now on, and finds what is shown already."""
         self._session.on_write(self._note)
-        self.refresh(console)
+        self._seen = console.count_of_writes()
+        self._search = []
+        self._take_found(console, self._search, self._board_at(console.cycle, self._session.script()))
 
     def _note(self, write: Write) -> None:
         """Takes a channel write, and puts its packet into each outbox."""
         self._seen += 1
         self._board.note(write.channel, write.value)
+        if self._search is not None:
+            self._search.append(write)
         if protocol.can_send(write.channel):
             self._broadcast(Packet(write.channel, write.value))
         if write.channel == protocol.LAMPS:
@@ -241,28 +249,53 @@ class Desk:
     def refresh(self, console: Console) -> None:
         """Does what is due as time goes by, and finds out whether time went back."""
         if console.count_of_writes() != self._seen:
-            self._find_board(console)
-            for client in self._clients:
-                self._send_all(console, client)
+            self._begin_search(console)
         for waiting in self._keys.values():
             self._press_due(console, waiting)
         self._show_lamps(console.cycle)
 
-    def _find_board(self, console: Console) -> None:
-        """Finds what is shown now by another run of the script: time went back, and writes were not reported."""
+    def _begin_search(self, console: Console) -> None:
+        """Has a thread find what is shown now: time went back, and writes were not reported. A search that has begun before
+        counts no more."""
         self._seen = console.count_of_writes()
+        search: List[Write] = []
+        self._search = search
+        cycle, script = console.cycle, self._session.script()
+
+        def find() -> None:
+            board = self._board_at(cycle, script)
+            with suppress(Ended, Unable):
+                self._session.inject(partial(self._take_found, search=search, board=board))
+
+        threading.Thread(target=find, name="board", daemon=True).start()
+
+    def _board_at(self, cycle: int, script: str) -> Optional[Board]:
+        """Returns what is shown at a cycle, by another run of a script; None if there is none."""
         board = Board()
         try:
             with tempfile.NamedTemporaryFile("w", suffix=".script") as file:
-                file.write(self._session.script())
+                file.write(script)
                 file.flush()
-                with console.again(file.name) as other:
-                    while other.cycle < console.cycle and other.stop is None:
-                        for write in other.go_to(min(console.cycle, other.cycle + PIECE)):
+                with self._session.console.again(file.name) as other:
+                    while other.cycle < cycle and other.stop is None:
+                        for write in other.go_to(min(cycle, other.cycle + PIECE)):
                             board.note(write.channel, write.value)
-            self._board = board
         except (Error, OSError) as error:
             self._log(f"the display is not up to date: {error}")
+            return None
+        return board
+
+    def _take_found(self, console: Console, search: List[Write], board: Optional[Board]) -> None:
+        """Takes what a search has found, with the writes since it began, and sends it to the clients."""
+        if search is not self._search:
+            return
+        self._search = None
+        if board is not None:
+            for write in search:
+                board.note(write.channel, write.value)
+            self._board = board
+        for client in self._clients:
+            self._send_all(console, client)
 
     def take(self, console: Console, client: Client, inputs: List[Input]) -> None:
         """Gives the machine what a client has sent. Keys wait for the keys before them."""
@@ -288,7 +321,7 @@ class Desk:
 
     def _was_pressed(self, channel: int, cycle: int) -> bool:
         """Whether a key of a keyboard went down after a cycle, whoever pressed it."""
-        for event in reversed(self._session.journal):
+        for event in reversed(self._session.journal.events):
             if event.cycle <= cycle:
                 return False
             if event.command.startswith(PRESSES[channel]):
@@ -508,40 +541,6 @@ def _is_reachable(address: str) -> bool:
         return address != "localhost"
 
 
-class ScriptFile:
-    """The file that takes the script at the end: a new one, or one with nothing in it. It is whole or as it was."""
-
-    def __init__(self, path: str) -> None:
-        """Raises `OSError` if the file cannot be written or has something in it."""
-        self.path = path
-        self._target = os.path.realpath(path)
-        self._check()
-        with open(path, "a") as file:
-            self._mode = os.fstat(file.fileno()).st_mode & 0o777
-
-    def _check(self) -> None:
-        """Raises `OSError` if the script would replace something."""
-        if os.path.isdir(self._target):
-            raise OSError(0, "is a folder", self.path)
-        if os.path.exists(self._target) and not os.path.isfile(self._target):
-            raise OSError(0, "is no regular file", self.path)
-        if os.path.exists(self._target) and os.path.getsize(self._target):
-            raise OSError(0, "has something in it: name another file", self.path)
-
-    def save(self, script: str) -> None:
-        """Writes the script beside the file, and puts it in the file's place."""
-        self._check()
-        with tempfile.NamedTemporaryFile("w", dir=os.path.dirname(self._target), delete=False) as file:
-            try:
-                file.write(script)
-                file.flush()
-                os.chmod(file.name, self._mode)
-                os.replace(file.name, self._target)
-            except BaseException:
-                os.unlink(file.name)
-                raise
-
-
 def main(words: Optional[List[str]] = None) -> int:
     """Runs a machine with instruments and without a page. Returns its status: 0 if it was ended and its script saved or
     printed, 1 if a file or a port is refused or the machine died, 3 if the script was not saved."""
@@ -555,39 +554,43 @@ def main(words: Optional[List[str]] = None) -> int:
     except Error as error:
         _say(str(error))
     except OSError as error:
-        _say(f"{error.filename}: {error.strerror}")
+        _say(f"{error.filename}: {error.strerror or error}")
+    except KeyboardInterrupt:  # before there was a session, or after it was saved
+        return SAVED
     return REFUSED
 
 
 def _serve(session: Session, asked: argparse.Namespace, file: Optional[ScriptFile]) -> int:
-    """Serves a session until it is to end, and saves its script."""
-    end = threading.Event()
-    for number in (signal.SIGINT, signal.SIGTERM, signal.SIGHUP):
-        if number != signal.SIGHUP or signal.getsignal(number) != signal.SIG_IGN:  # by nohup
-            signal.signal(number, lambda *_: end.set())
-    try:
-        if _is_reachable(asked.listen):
-            _say(f"warning: whoever reaches {asked.listen} can use the machine: the protocol knows no passwords")
-        instruments = attach(session, asked.port, asked.listen)
-        session.set_speed(asked.speed)
-        session.play()
-        _wait(session, end)
-        instruments.close()
+    """Serves a session until it is to end, and saves its script before anything else is ended."""
+    with Ending() as ending:
+        ending.kill = session.console.kill
+        instruments = None
+        try:
+            if _is_reachable(asked.listen):
+                _say(f"warning: whoever reaches {asked.listen} can use the machine: the protocol knows no passwords")
+            instruments = attach(session, asked.port, asked.listen)
+            session.set_speed(asked.speed)
+            session.play()
+            _wait(session, ending)
+            ended = session.ended
+            status = _keep(session, asked, file)
+            ending.saved(status)
+        finally:
+            session.close()
+            if instruments is not None:
+                instruments.close()
         if instruments.refused:
             _say(f"{instruments.refused} inputs were refused")
-        status = _keep(session, asked, file)
-        if session.ended is None:
+        if ended is None:
             return status
-        _say(session.ended)
+        _say(ended)
         return REFUSED
-    finally:
-        session.close()
 
 
-def _wait(session: Session, end: threading.Event) -> None:
+def _wait(session: Session, ending: Ending) -> None:
     """Waits until the program is to end or the machine is gone; says if the machine stops."""
     has_stopped = False
-    while not end.wait(0.1) and session.ended is None:
+    while not ending.wait(0.1) and session.ended is None:
         if session.console.stop is not None and not has_stopped:
             has_stopped = True
             _say(f"the machine has stopped: {session.console.stop} at cycle {session.console.cycle}")
@@ -595,26 +598,18 @@ def _wait(session: Session, end: threading.Event) -> None:
 
 def _keep(session: Session, asked: argparse.Namespace, file: Optional[ScriptFile]) -> int:
     """Saves the script, or prints it if no file is named or the file does not take it. Returns the status."""
-    script = session.script()
-    status = SAVED
-    if file is not None:
-        try:
-            file.save(script)
-        except OSError as error:
-            _say(f"{file.path}: {error.strerror}: here is the script")
-            status = UNSAVED
-        else:
-            options = f" --form {asked.form}" if asked.form else ""
-            files = f"{shlex.quote(asked.rope)} {shlex.quote(file.path)}"
-            print(f"{shell_agc()} {files} --limit {session.limit_to_repeat()}{options}", flush=True)
-            return SAVED
-    print(script, end="", flush=True)
-    return status
+    try:
+        save_or_print(session.repeat(), file, asked.rope, asked.form)
+    except OSError as error:
+        _say(f"{error.filename}: {error.strerror}: here is the script" if file else f"{error.filename}: {error.strerror}")
+        return UNSAVED
+    return SAVED
 
 
 def _say(text: str) -> None:
-    """Prints a line on standard error."""
-    print(f"instruments: {text}", file=sys.stderr, flush=True)
+    """Prints a line on standard error, which may be a file on a full disk."""
+    with suppress(OSError):
+        print(f"instruments: {text}", file=sys.stderr, flush=True)
 
 
 def _arguments() -> argparse.ArgumentParser:

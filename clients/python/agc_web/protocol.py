@@ -72,33 +72,30 @@ class Packet(NamedTuple):
         return Packet(channel, word, bool(first & 0x20))
 
 
+class OutOfStep(Exception):
+    """A byte that cannot stand at its place in a packet."""
+
+
 class PacketReader:
-    """Cuts a stream of bytes into packets, however it is divided, and skips bytes that are out of step."""
+    """Cuts a stream of bytes into packets, however it is divided."""
 
     def __init__(self) -> None:
-        self._begun = bytearray()
-        self.skipped = 0
-        """How many bytes were out of step; each packet in step after them takes one off."""
+        self._begun = b""
 
     @property
     def is_halfway(self) -> bool:
         """Whether a packet has begun and is not whole."""
         return bool(self._begun)
 
-    def feed(self, data: bytes) -> Iterator[Packet]:
-        """Takes the next bytes, and yields the packets that are whole."""
-        for byte in data:
-            if byte >> 6 != len(self._begun):
-                self.skipped += len(self._begun)
-                self._begun.clear()
-            if byte >> 6 == len(self._begun):
-                self._begun.append(byte)
-            else:
-                self.skipped += 1
-            if len(self._begun) == 4:
-                yield Packet.decode(bytes(self._begun))
-                self._begun.clear()
-                self.skipped = max(0, self.skipped - 1)
+    def feed(self, data: bytes) -> List[Packet]:
+        """Takes the next bytes, and returns the packets that are whole. Raises `OutOfStep`, and returns none of them, if one
+        of the bytes has not the upper bits of its place: this is no client of the protocol."""
+        begun = self._begun + data
+        if any(byte >> 6 != at & 3 for at, byte in enumerate(begun)):
+            raise OutOfStep()
+        end = len(begun) & ~3
+        self._begun = begun[end:]
+        return [Packet.decode(begun[at:at + 4]) for at in range(0, end, 4)]
 
 
 class Inexpressible(Exception):

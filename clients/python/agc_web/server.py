@@ -1,34 +1,38 @@
-"""The server of the page: files, news by server-sent events, commands by POST.
+"""The server of the page: files, news by a WebSocket, commands by POST.
 
-It listens on 127.0.0.1 alone. Each request has to name our host and, if it says where it comes from, our origin; and it
-has to have the token of the printed address. The session does what a request is for.
+It listens on 127.0.0.1, or on another address of this computer. Each request has to name the host at which it came in and,
+if it says where it comes from, that origin; and it has to have the token of the printed address, or the cookie that a token
+has become. The session does what a request is for.
 """
 
-import hmac
+import io
+import ipaddress
 import json
 import os
-import secrets
 import socket
-import subprocess
 import sys
-import tempfile
 import threading
 import time
+from contextlib import suppress
 from http import HTTPStatus
 from http.server import BaseHTTPRequestHandler, ThreadingHTTPServer
-from typing import Any, Callable, Dict, Optional, Sequence, Tuple
+from typing import Any, Callable, Dict, Optional, Tuple
 from urllib.parse import parse_qs, urlsplit
 
 from agc import Console, Ended, Refused
+from agc_web.film import Films
+from agc_web.gate import Gate, Room
 from agc_web.session import KEYS, NEWS, Session, Sure, Unable
+from agc_web.stream import END, PING, Listener, accept_key, frame
 
+HERE = "127.0.0.1"
+ANYWHERE = "0.0.0.0"
 PAGE = os.path.join(os.path.dirname(os.path.abspath(__file__)), "page")
 LONGEST_BODY = 4096  # bytes
-MOST_CONNECTIONS = 64
 MOST_LOOKS = 64  # cells or channels of one look
-PATIENCE = 20  # seconds that a browser may take to send a request, or to take a part of an answer
-HEARTBEAT = 5  # seconds after which a quiet stream sends a comment, which shows whether its browser is still there
-FILM_PATIENCE = 600  # seconds that a film may take
+WHOLE = 10  # seconds that a whole request may take
+PATIENCE = 20  # seconds that a browser may take between two requests, or to take a part of an answer
+HEARTBEAT = 5  # seconds after which a quiet stream sends a ping, which shows whether its browser is still there
 TYPES = {
     ".html": "text/html; charset=utf-8", ".css": "text/css; charset=utf-8", ".js": "text/javascript; charset=utf-8",
     ".svg": "image/svg+xml",
@@ -36,13 +40,14 @@ TYPES = {
 FILES = {
     name: os.path.join(PAGE, *name.split("/"))
     for name in (
-        "face/face.css", "web/web.css", "face/shapes.js", "face/draw.js", "face/show.js", "web/words.js", "web/dsky.js",
-        "web/inspector.js", "web/instruments.js", "web/web.js", "web/icon.svg",
+        "face/face.css", "web/view.css", "web/web.css", "web/phone.css", "face/shapes.js", "face/draw.js", "face/show.js",
+        "web/session.js", "web/elements.js", "web/words.js", "web/dsky.js", "web/inspector.js", "web/drawing.js", "web/view.js",
+        "web/instruments.js", "web/guide.js", "web/why.js", "web/web.js", "web/icon.svg",
     )
 }
 POLICY = (
-    "default-src 'none'; script-src 'self'; style-src 'self'; connect-src 'self'; img-src 'self'; base-uri 'none'; "
-    "form-action 'none'; frame-ancestors 'none'"
+    "default-src 'none'; script-src 'self'; style-src 'self'; connect-src 'self' {streams}; img-src 'self'; "
+    "base-uri 'none'; form-action 'none'; frame-ancestors 'none'"
 )
 FILM_POLICY = "sandbox allow-scripts; default-src 'none'; script-src 'unsafe-inline'; style-src 'unsafe-inline'"
 
@@ -61,29 +66,54 @@ class Server(ThreadingHTTPServer):
     daemon_threads = True
     request_queue_size = 32
 
-    def __init__(
-        self, session: Session, about: Dict[str, Any], port: int = 0, film: Optional[Callable[[str, int], bytes]] = None
-    ) -> None:
-        """Binds to a port, or to a free one. `about` is the first message to the page; `film` films a script."""
+    def __init__(self, session: Session, about: Dict[str, Any], port: int, films: Films, listen: str = HERE) -> None:
+        """Binds to a port of an address, or to a free one if it is 0. `about` is the first message to the page."""
         self.session = session
         self.about = about
-        self.film = film
-        self.token = secrets.token_urlsafe(24)
+        self.films = films
+        self.gate = Gate(is_short=is_reachable(listen))
+        self.room = Room()
         self._holder = ""
         self._held: Dict[Tuple[int, str], str] = {}  # the windows that hold buttons of instruments
-        self._room = threading.BoundedSemaphore(MOST_CONNECTIONS)
-        super().__init__(("127.0.0.1", port), Handler)
+        self._thread = threading.Thread(target=self.serve_forever, args=(0.1,), name="server", daemon=True)
+        super().__init__((listen, port), Handler)
         self.port = self.server_address[1]
+        self.name = own_address() if listen == ANYWHERE else listen
+        if is_reachable(listen):
+            self.about = {**about, "phones": self.address}
+
+    def start(self) -> None:
+        """Begins to serve, on a thread of its own."""
+        self._thread.start()
+
+    def stop(self) -> None:
+        """Ends to serve."""
+        if self._thread.is_alive():
+            self.shutdown()
+        self.server_close()
 
     @property
     def address(self) -> str:
         """The address of the page, with the token."""
-        return f"http://127.0.0.1:{self.port}/?token={self.token}"
+        return f"http://{self.name}:{self.port}/?token={self.gate.token}"
+
+    def address_for_once(self) -> str:
+        """Returns an address that lets one browser in, and none after it."""
+        return f"http://{self.name}:{self.port}/?token={self.gate.token_for_once()}"
+
+    def policy(self, address: str) -> str:
+        """Returns what the page may load that came in at an address: files and news from here alone."""
+        return POLICY.replace("{streams}", " ".join(f"ws://{host}" for host in self.hosts(address)))
 
     @property
-    def hosts(self) -> Tuple[str, ...]:
-        """The names by which a browser may call us. Browsers leave out port 80."""
-        names = ("127.0.0.1", "localhost")
+    def cookie_name(self) -> str:
+        """The name of our cookie: browsers send the cookies of all ports to each."""
+        return f"agc-web-{self.port}"
+
+    def hosts(self, address: str) -> Tuple[str, ...]:
+        """Returns the names by which a browser may call us that reached us at an address: a name from elsewhere, which might
+        be anybody's, is none. Browsers leave out port 80."""
+        names = (HERE, "localhost") if address == HERE else (address,)
         return (*(f"{name}:{self.port}" for name in names), *(names if self.port == 80 else ()))
 
     def hold_pro(self, window: str, down: bool) -> None:
@@ -114,18 +144,14 @@ class Server(ThreadingHTTPServer):
                     pass
 
     def process_request(self, request: Any, client_address: Any) -> None:
-        """Starts a thread for a connection, if there is room for one."""
-        if self._room.acquire(blocking=False):
-            super().process_request(request, client_address)
-        else:
-            self.shutdown_request(request)
+        """Starts a thread for a connection."""
+        self.room.enter(request)
+        super().process_request(request, client_address)
 
-    def process_request_thread(self, request: Any, client_address: Any) -> None:
-        """Serves a connection, and makes room again."""
-        try:
-            super().process_request_thread(request, client_address)
-        finally:
-            self._room.release()
+    def shutdown_request(self, request: Any) -> None:
+        """Ends a connection, and makes room again."""
+        self.room.leave(request)
+        super().shutdown_request(request)
 
     def handle_error(self, request: Any, client_address: Any) -> None:
         """Reports a fault of our own; says nothing of a browser that went away."""
@@ -134,16 +160,62 @@ class Server(ThreadingHTTPServer):
             print(f"agc-web: {error!r}", file=sys.stderr)
 
 
+class Reading(io.RawIOBase):
+    """What a browser sends. A request has to be whole within ten seconds, so that nobody who sends a byte now and then
+    keeps a connection."""
+
+    def __init__(self, connection: socket.socket) -> None:
+        self._connection = connection
+        self._end: Optional[float] = time.monotonic() + WHOLE  # None between two requests
+
+    def rest(self) -> None:
+        """Notes that a request was read: the next one may take its time to begin."""
+        self._end = None
+
+    def readable(self) -> bool:
+        """Says that this is a stream to be read."""
+        return True
+
+    def readinto(self, buffer: Any) -> int:
+        """Takes what comes next."""
+        left = PATIENCE if self._end is None else self._end - time.monotonic()
+        if left <= 0:
+            raise socket.timeout("timed out")
+        self._connection.settimeout(left)
+        count = self._connection.recv_into(buffer)
+        if self._end is None:
+            self._end = time.monotonic() + WHOLE
+        return count
+
+
 class Handler(BaseHTTPRequestHandler):
     """One connection of a browser."""
 
     server: Server
+    connection: socket.socket
     protocol_version = "HTTP/1.1"
     server_version = "agc-web"
     sys_version = ""
     disable_nagle_algorithm = True
     timeout = PATIENCE
     wbufsize = -1  # an answer leaves in one piece
+
+    def setup(self) -> None:
+        """Begins with a connection."""
+        super().setup()
+        self.rfile.close()
+        self._reading = Reading(self.connection)
+        self.rfile = io.BufferedReader(self._reading)
+
+    @property
+    def _address(self) -> str:
+        """Our address at which the connection came in."""
+        return str(self.connection.getsockname()[0])
+
+    def handle_one_request(self) -> None:
+        """Answers one request."""
+        super().handle_one_request()
+        self._reading.rest()
 
     def do_GET(self) -> None:
         """Answers with a file, the news, the script or a film."""
@@ -179,16 +251,26 @@ class Handler(BaseHTTPRequestHandler):
         """Returns the path of a request that comes from our own page; refuses any other."""
         parts = urlsplit(self.path)
         host, origin = self.headers.get("Host", ""), self.headers.get("Origin")
-        if len(self.headers.get_all("Host", [])) != 1 or host not in self.server.hosts:
+        if len(self.headers.get_all("Host", [])) != 1 or host not in self.server.hosts(self._address):
             raise self._closing(HTTPStatus.FORBIDDEN, "this is not our host")
         if origin is None and self.command == "POST" or origin is not None and origin != f"http://{host}":
             raise self._closing(HTTPStatus.FORBIDDEN, "this is not our origin")
         if self.headers.get("Sec-Fetch-Site", "none") not in ("none", "same-origin"):
             raise self._closing(HTTPStatus.FORBIDDEN, "this is not our page")
-        token = parse_qs(parts.query).get("token", [self.headers.get("X-Token", "")])[0]
-        if not hmac.compare_digest(token.encode(), self.server.token.encode()):
+        if not self._is_known(parts.path, parse_qs(parts.query).get("token", [""])[0]):
             raise self._closing(HTTPStatus.FORBIDDEN, "the token of the printed address is missing")
+        if not self.server.room.know(self.connection):
+            raise self._closing(HTTPStatus.SERVICE_UNAVAILABLE, "there are too many windows")
         return parts.path
+
+    def _is_known(self, path: str, token: str) -> bool:
+        """Whether a request has the cookie, the token of the printed address, or for the page a token that is good once.
+        A token in the page's address becomes the cookie."""
+        gate = self.server.gate
+        self._is_entering = path == "/" and token != "" and self.command == "GET"
+        has_token = gate.lets_in(token) if self._is_entering else gate.is_token(token)  # used up in any case
+        has_cookie = gate.is_cookie(self.headers.get("Cookie", ""), self.server.cookie_name)
+        return has_token or has_cookie or gate.is_token(self.headers.get("X-Token", ""))
 
     def _closing(self, status: HTTPStatus, text: str) -> BadRequest:
         """Makes a refusal after which nothing more is read from the connection."""
@@ -219,8 +301,10 @@ class Handler(BaseHTTPRequestHandler):
         self.wfile.flush()
 
     def _send_head(self, kind: str, status: HTTPStatus, **more: str) -> None:
+        self.connection.settimeout(PATIENCE)
         headers = {
-            "Content-Type": kind, "Cache-Control": "no-store", "Content-Security-Policy": POLICY,
+            "Content-Type": kind, "Cache-Control": "no-store",
+            "Content-Security-Policy": self.server.policy(self._address),
             "Referrer-Policy": "no-referrer", "X-Content-Type-Options": "nosniff", "X-Frame-Options": "DENY",
             "Cross-Origin-Resource-Policy": "same-origin", "Cross-Origin-Opener-Policy": "same-origin",
             **{name.replace("_", "-"): value for name, value in more.items()},
@@ -257,42 +341,59 @@ class Handler(BaseHTTPRequestHandler):
             raise BadRequest(HTTPStatus.NOT_FOUND, "there is no such page")
 
     def _send_page(self) -> None:
-        """Sends the page, with the token in the addresses of its files."""
-        with open(os.path.join(PAGE, "web", "index.html"), encoding="utf-8") as file:
-            page = file.read().replace("{{token}}", self.server.token)
-        self._send(page.encode(), TYPES[".html"])
+        """Sends the page; if its address has a token, the cookie, and the address without it."""
+        if self._is_entering:
+            cookie = f"{self.server.cookie_name}={self.server.gate.cookie}; Path=/; HttpOnly; SameSite=Strict"
+            self._send(b"", TYPES[".html"], HTTPStatus.SEE_OTHER, Location="/", Set_Cookie=cookie)
+            return
+        with open(os.path.join(PAGE, "web", "index.html"), "rb") as file:
+            self._send(file.read(), TYPES[".html"])
 
     def _send_news(self) -> None:
         """Sends what changes, as long as the browser listens: at most fifty messages a second."""
+        if self.headers.get("Upgrade", "").lower() != "websocket":
+            raise BadRequest(HTTPStatus.UPGRADE_REQUIRED, "the news come by a WebSocket")
+        accepted = accept_key(self.headers.get("Sec-WebSocket-Key", ""))
         self.close_connection = True
+        self.connection.settimeout(PATIENCE)
+        self.send_response(HTTPStatus.SWITCHING_PROTOCOLS)
+        for name, value in (("Upgrade", "websocket"), ("Connection", "Upgrade"), ("Sec-WebSocket-Accept", accepted)):
+            self.send_header(name, value)
+        self.end_headers()
         window = parse_qs(urlsplit(self.path).query).get("window", [""])[0]
-        news = self.server.session.news
-        self._send_head("text/event-stream; charset=utf-8", HTTPStatus.OK)
+        listener = Listener(self.connection)
         try:
-            seen, parts = news.since(0, 0)
-            self._send_event(f'{{"about":{json.dumps(self.server.about)},{parts[1:]}')
-            while not news.closed:
-                seen, parts = news.since(seen, HEARTBEAT)
-                self._send_event(parts)
-                time.sleep(NEWS)
+            self._send_until_left(listener)
         finally:
+            listener.close()
             self.server.release(window)
 
-    def _send_event(self, text: str) -> None:
-        """Sends one message; a comment if there is nothing to say."""
-        self.wfile.write(f"data: {text}\n\n".encode() if text else b": still here\n\n")
+    def _send_until_left(self, listener: Listener) -> None:
+        """Sends the news until the browser has left or there are no more."""
+        news = self.server.session.news
+        seen, parts = news.since(0, 0)
+        self._send_bytes(frame(f'{{"about":{json.dumps(self.server.about)},{parts[1:]}'))
+        while not news.closed and not listener.has_left():
+            seen, parts = news.since(seen, HEARTBEAT)
+            self._send_bytes(frame(parts) if parts else PING)
+            time.sleep(NEWS)
+        self._send_bytes(END)
+
+    def _send_bytes(self, data: bytes) -> None:
+        self.wfile.write(data)
         self.wfile.flush()
 
     def _send_film(self) -> None:
         """Sends a film of the session so far. Its page is separated from ours: it cannot reach this server."""
-        if self.server.film is None:
-            raise Unable("films need agc-study beside agc-console, or on the path")
-        session = self.server.session
-        script, limit = session.call(lambda: (session.script(), session.limit_to_repeat()))
+        repeat, views = self.server.session.repeat(), []
+        with suppress(Unable):  # a machine that is busy has a film without them
+            views = self.server.session.past_views()
         try:
-            self._send(self.server.film(script, limit), TYPES[".html"], Content_Security_Policy=FILM_POLICY)
+            film = self.server.films.make(repeat, views)
         except Unable as unable:
             self._send(str(unable).encode(), "text/plain; charset=utf-8", HTTPStatus.CONFLICT)
+            return
+        self._send(film, TYPES[".html"], Content_Security_Policy=FILM_POLICY)
 
     # POST
 
@@ -306,6 +407,8 @@ class Handler(BaseHTTPRequestHandler):
             self._send_json({})
         elif path == "/look":
             self._send_json(look(self.server.session, body))
+        elif path == "/find":
+            self._send_json(found_before(self.server.session, body))
         else:
             raise BadRequest(HTTPStatus.NOT_FOUND, "there is no such page")
 
@@ -324,16 +427,32 @@ class Handler(BaseHTTPRequestHandler):
         self._send_json({"error": "this is no request"}, HTTPStatus(code) if 400 <= code < 500 else HTTPStatus.BAD_REQUEST)
 
     def finish(self) -> None:
-        """Ends a connection; reads what a refused request still sends, so that its browser gets the answer."""
-        try:
+        """Ends a connection; reads for a second what a refused request still sends, so that its browser gets the answer."""
+        with suppress(OSError):
             self.connection.settimeout(1)
             super().finish()
             self.connection.shutdown(socket.SHUT_WR)
-            for _ in range(64):
-                if not self.connection.recv(65536):
-                    break
+            end = time.monotonic() + 1
+            while time.monotonic() < end and self.connection.recv(65536):
+                pass
+
+
+def is_reachable(address: str) -> bool:
+    """Whether other computers may reach an address."""
+    try:
+        return not ipaddress.ip_address(address).is_loopback
+    except ValueError:
+        return address != "localhost"
+
+
+def own_address() -> str:
+    """Returns the address by which other computers of the network reach this one; nothing is sent to find it."""
+    with socket.socket(socket.AF_INET, socket.SOCK_DGRAM) as probe:
+        try:
+            probe.connect(("192.0.2.1", 9))
+            return str(probe.getsockname()[0])
         except OSError:
-            pass
+            return HERE
 
 
 def item(body: Dict[str, Any], name: str, kind: type) -> Any:
@@ -400,6 +519,16 @@ def look(session: Session, body: Dict[str, Any]) -> Dict[str, Any]:
     return found
 
 
+def found_before(session: Session, body: Dict[str, Any]) -> Dict[str, int]:
+    """Returns where the last boundary was that hit one of these places, before a cycle if the body has one."""
+    places, before = item(body, "places", list), body.get("before")
+    if not all(isinstance(each, str) for each in places):
+        raise ValueError("places are texts")
+    if before is not None and type(before) is not int:
+        raise ValueError("before is a cycle")
+    return session.find(places, before)._asdict()
+
+
 def word_at(console: Console, place: str) -> Any:
     """Returns the word of a cell, or why it cannot be read."""
     if not place.isascii() or not place.isprintable() or len(place.split()) != 1:
@@ -408,25 +537,3 @@ def word_at(console: Console, place: str) -> Any:
         return console.cell(place)
     except Refused as refused:
         return str(refused)
-
-
-def film_by(program: Sequence[str], rope: str, form: Optional[str]) -> Callable[[str, int], bytes]:
-    """Returns what films a script: `agc-study film` of the rope."""
-
-    one_at_a_time = threading.Lock()
-
-    def film(script: str, limit: int) -> bytes:
-        with one_at_a_time, tempfile.TemporaryDirectory() as folder:
-            with open(os.path.join(folder, "session.script"), "w", encoding="ascii") as file:
-                file.write(script)
-            words = [*program, "film", os.path.abspath(rope), "session.script", "--limit", str(limit)]
-            words += ["--form", form] if form else []
-            try:
-                done = subprocess.run(words, cwd=folder, stdin=subprocess.DEVNULL, capture_output=True, timeout=FILM_PATIENCE)
-            except (OSError, subprocess.TimeoutExpired) as error:
-                raise Unable(f"agc-study made no film: {error}") from None
-        if done.returncode:
-            raise Unable(done.stderr.decode(errors="replace").strip() or f"agc-study ended with status {done.returncode}")
-        return done.stdout
-
-    return film

@@ -45,7 +45,19 @@
     return [...shown.values(), ''].join(LINE);
   }
 
+  // Below the DSKY of one run the bar with the controls would cover the tables of a low window, so in a wide one they stand
+  // beside it.
+  const STYLE = `
+@media (min-width: 1100px) {
+  .run.watched:only-child { display: grid; grid-template-columns: 460px minmax(0, 1fr); gap: 0 24px; align-items: start; width: 100%; }
+  .run.watched:only-child > * { grid-column: 1; }
+  .run.watched:only-child > .watch { grid-column: 2; grid-row: 1 / span 4; margin-top: 28px; }
+}
+.watch { margin: 10px 0 0; padding: 8px 12px; border-radius: 6px; background: #212425; font: 12px/1.4 ui-monospace, monospace; white-space: pre-wrap; }
+`;
+
   document.addEventListener('DOMContentLoaded', () => {
+    document.head.append(Object.assign(document.createElement('style'), { textContent: STYLE }));
     const shows = [];
     for (const name of ['left', 'right']) {
       const block = document.getElementById(name + '-tables');
@@ -55,7 +67,8 @@
         const shown = document.createElement('pre');
         shown.id = name + '-watch';
         shown.setAttribute('aria-label', 'The tables of the Executive');
-        shown.style.cssText = 'margin: 10px 0 0; padding: 8px 12px; border-radius: 6px; background: #212425; font: 12px/1.4 ui-monospace, monospace; white-space: pre-wrap;';
+        shown.className = 'watch';
+        panel.closest('.run').classList.add('watched');
         panel.closest('.run').append(shown);
         shows.push((cycle) => { shown.textContent = textAt(tables, cycle); });
       }

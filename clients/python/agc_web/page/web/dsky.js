@@ -58,7 +58,7 @@ function holdPro(button) {
 function setPro(holder, down) {
   if (down ? proHeldBy : !holder || proHeldBy !== holder) return;
   proHeldBy = down ? holder : '';
-  ask('pro', { down, window: WINDOW });
+  ask('pro', { down });
 }
 
 function press(name) {

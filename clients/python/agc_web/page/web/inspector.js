@@ -11,7 +11,7 @@ const CHANNELS = [
   [0o16, 'key of the navigation DSKY, marks'], [0o30, 'inputs: stage, engine, IMU'], [0o31, 'inputs: hand controllers, modes'],
   [0o32, 'inputs: thrusters, PRO'], [0o33, 'inputs: radar, optics, PIPA'], [0o34, 'downlink, first word'], [0o35, 'downlink, second word'],
 ];
-const TABS = { orders: 'Orders', memory: 'Memory', watch: 'Watch', channels: 'Channels', tables: 'Tables', breaks: 'Breaks', script: 'Script' };
+const TABS = { orders: 'Orders', memory: 'Memory', watch: 'Watch', channels: 'Channels', tables: 'Tables', why: 'Alarm', breaks: 'Breaks', script: 'Script' };
 
 const inspector = { tab: 'orders', bank: 0, words: null, watched: [], looking: false, stale: false, lookedAt: 0, cycle: -1, events: -1 };
 
@@ -139,10 +139,10 @@ async function look() {
   inspector.stale = false;
   try {
     for (const body of bodies) {
-      const seen = await post('look', body);
+      const seen = await session.look(body);
       if (seen.status === 200 && JSON.stringify(bodies) === JSON.stringify(wanted())) showWords(seen);
     }
-  } catch { /* the stream says that the server is gone */ }
+  } catch { /* the stream says that the session is gone */ }
   setTimeout(() => {
     inspector.looking = false;
     if (inspector.stale) look();
@@ -238,7 +238,9 @@ function showBreaks(texts) {
   find('breaks').replaceChildren(...texts.map((text) => {
     const remove = make('button', { type: 'button', 'aria-label': `Remove the breakpoint ${text}` }, '✕');
     remove.addEventListener('click', () => ask('unbreak', { place: text }));
-    return make('li', {}, make('code', {}, breakText(text)), ' ', remove);
+    const last = make('button', { type: 'button', 'aria-label': `Back to the last ${breakText(text)}` }, '◀');
+    last.addEventListener('click', () => backTo(text));
+    return make('li', {}, last, ' ', make('code', {}, breakText(text)), ' ', remove);
   }));
 }
 
@@ -254,20 +256,23 @@ async function addBreak(event) {
   const field = find('break-place');
   const typed = field.value.trim();
   field.value = '';
-  const done = await ask('break', { place: `${find('break-kind').value} ${typed}`.trim() });
+  const done = await ask('break', { place: placeOfForm(typed) });
   if (!done && field.value === '') field.value = typed;
 }
+
+const placeOfForm = (typed) => `${find('break-kind').value} ${typed}`.trim();
 
 // the script
 
 async function showScript() {
   if (inspector.tab !== 'script') return;
-  const response = await fetch(address('script'));
-  if (response.ok) setText(find('script'), (await response.text()) || '(nothing was pressed yet)');
+  try {
+    setText(find('script'), (await session.script()) || '(nothing was pressed yet)');
+  } catch { /* the stream says that the session is gone */ }
 }
 
 async function copyScript() {
-  const text = await (await fetch(address('script'))).text();
+  const text = await session.script();
   try {
     await navigator.clipboard.writeText(text);
     setText(find('copy'), 'Copied');
@@ -284,7 +289,7 @@ function follow(time) {
   if (time.events !== inspector.events) showScript();
   inspector.cycle = time.cycle;
   inspector.events = time.events;
-  setText(find('limit'), String(Math.max(1, time.cycle + (time.stop ? 1 : 0))));
+  setText(find('limit'), String(time.limit));
 }
 
 function buildInspector() {
@@ -299,8 +304,9 @@ function buildInspector() {
     find('watch-place').value = '';
   });
   find('break-form').addEventListener('submit', addBreak);
+  find('break-back').addEventListener('click', () => { if (find('break-form').reportValidity()) backTo(placeOfForm(find('break-place').value.trim())); });
   find('copy').addEventListener('click', copyScript);
-  find('download').href = address('script');
-  find('film').href = address('film');
+  find('download').href = session.scriptAddress;
+  find('film').href = session.filmAddress;
   JSON.parse(sessionStorage.getItem('watched') || '[]').forEach(addWatch);
 }

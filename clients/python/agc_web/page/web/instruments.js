@@ -1,19 +1,19 @@
 'use strict';
-// The panels of instruments: each is JSON with a title, a dial, rows of text, bars and buttons.
-
-const SVG = 'http://www.w3.org/2000/svg';
-
-function drawn(name, attributes, ...inside) {
-  const element = document.createElementNS(SVG, name);
-  for (const [attribute, value] of Object.entries(attributes)) element.setAttribute(attribute, value);
-  element.append(...inside);
-  return element;
-}
+// The panels of instruments: each shows a view, and has buttons.
 
 // Shows the views of all instruments, a tab for each; the tabs are made with the first views, which may have failed.
 function showInstruments(views) {
-  if (!find('instrument-0-panel')) views.forEach(buildInstrument);
-  views.forEach(showInstrument);
+  if (!find('instrument-0-panel')) {
+    views.forEach(buildInstrument);
+    if (shown.about) showTabs(shown.about);
+  }
+  views.forEach((view, number) => {
+    try {
+      showInstrument(view, number);
+    } catch (error) { // a part of a view is not as it is to be: the rest of the page goes on
+      showRow(find(`instrument-${number}-panel`).querySelector('.rows'), 'failed', error);
+    }
+  });
 }
 
 function buildInstrument(view, number) {
@@ -21,24 +21,14 @@ function buildInstrument(view, number) {
   const panel = make('div', { id: `${id}-panel`, class: 'panel instrument', role: 'tabpanel', tabindex: '0' });
   find('inspector').append(panel);
   TABS[id] = view.title;
-  panel.append(make('dl', { class: 'rows' }));
-}
-
-// A round dial: a craft that turns in it, and a mark for where it is to stand.
-function buildDial() {
-  const ticks = [...Array(36).keys()].map((i) => drawn('line', { x1: 0, y1: i % 3 ? -86 : -82, x2: 0, y2: -92, transform: `rotate(${10 * i})` }));
-  const jet = (name, x) => drawn('polygon', { class: `jet ${name}`, points: `${x - 5},34 ${x + 5},34 ${x},58` });
-  const body = drawn('path', { d: 'M0,-48 L20,-6 L20,30 L-20,30 L-20,-6 Z' });
-  const craft = drawn('g', { class: 'craft' }, jet('left', -14), jet('right', 14), body);
-  const wanted = drawn('polygon', { class: 'wanted', points: '0,-80 -6,-67 6,-67' });
-  return drawn('svg', { viewBox: '-100 -100 200 200', class: 'dial', role: 'img', 'aria-label': 'The craft' },
-    drawn('circle', { r: 94 }), ...ticks, wanted, craft);
+  document.body.classList.add('with-view');
+  panel.append(...buildView());
 }
 
 function buildControls(controls, instrument) {
-  const tell = (name, down) => ask('control', { instrument, name, down, window: WINDOW });
+  const tell = (name, down) => ask('control', { instrument, name, down });
   return make('p', { class: 'row controls', role: 'group', 'aria-label': 'Controls' }, ...controls.map(({ name, label, key }) => {
-    const button = make('button', { type: 'button', 'data-hold': key || '' }, label);
+    const button = make('button', { type: 'button', 'data-hold': key || '', 'data-control': name }, label);
     holdable(button, (down) => tell(name, down));
     return button;
   }));
@@ -70,25 +60,6 @@ function showInstrument(view, number) {
   const panel = find(`instrument-${number}-panel`);
   const tab = find(`instrument-${number}-tab`);
   if (tab && view.title) setText(tab, view.title);
-  const rows = panel.querySelector('.rows');
-  if (view.dial && !panel.querySelector('.dial')) rows.before(buildDial());
-  if (view.controls && !panel.querySelector('.controls')) rows.after(buildControls(view.controls, number));
-  const dial = panel.querySelector('.dial');
-  if (dial && view.dial) {
-    dial.querySelector('.craft').setAttribute('transform', `rotate(${view.dial.angle})`);
-    dial.querySelector('.wanted').setAttribute('transform', `rotate(${view.dial.wanted})`);
-    for (const side of ['left', 'right']) dial.querySelector(`.jet.${side}`).classList.toggle('burns', view.dial.jets.includes(side));
-  }
-  const names = (view.rows || []).map(([name]) => name);
-  for (const row of [...rows.children]) if (!names.includes(row.dataset.name)) row.remove();
-  for (const [name, value] of view.rows || []) showRow(rows, name, value);
-}
-
-function showRow(rows, name, value) {
-  let row = [...rows.children].find((each) => each.dataset.name === name);
-  if (!row) {
-    row = make('div', { 'data-name': name }, make('dt', {}, name), make('dd'));
-    rows.append(row);
-  }
-  setText(row.querySelector('dd'), String(value));
+  showView(panel, view);
+  if (view.controls && !panel.querySelector('.controls')) panel.querySelector('.rows').after(buildControls(view.controls, number));
 }

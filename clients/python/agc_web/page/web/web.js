@@ -1,16 +1,16 @@
 'use strict';
-// The page as a whole: the news of the server, and time.
+// The page as a whole: the news of the session, and time.
 
 const CYCLES_A_SECOND = 1024000 / 12;
 const SPEED_STEPS = [1, 10, 100, 1000];
 const HOLD_KEYS = new Set(['ArrowLeft', 'ArrowRight', 'ArrowUp', 'ArrowDown']);
 
 let now = { cycle: 0, furthest: 0, playing: false, speed: 1, stop: null, ended: null, trouble: '', undo: null };
-let reached = true; // whether the server answers
+let reached = true; // whether the session answers
 let sliding = false;
 let byPointer = false; // whether a pointer was used last
 
-// what the server has said
+// what the session has said
 
 function showAbout(about) {
   const name = about.rope.split('/').slice(-2).join('/');
@@ -18,9 +18,19 @@ function showAbout(about) {
   document.title = `DSKY: ${name}`;
   document.body.classList.toggle('named', about.names.length > 0);
   find('names').replaceChildren(...about.names.map((each) => make('option', { value: each })));
-  if (find('tabs').children.length) return;
-  const tabs = Object.keys(TABS).filter((tab) => find(`${tab}-panel`) && (tab !== 'tables' || about.watch));
-  buildTabs([...tabs.filter((tab) => tab.startsWith('instrument')), ...tabs.filter((tab) => !tab.startsWith('instrument'))]);
+  find('phones-button').hidden = !about.phones;
+  setText(find('phones-address'), about.phones || '');
+  keepNames(about);
+  loadGuides(about.guide);
+  showTabs(about);
+}
+
+// Makes the tabs, those of instruments first. Instruments may come after what the session is about.
+function showTabs(about) {
+  const all = Object.keys(TABS).filter((tab) => find(`${tab}-panel`) && (tab !== 'tables' || about.watch) && (tab !== 'why' || known(ALARMS).length));
+  const names = [...all.filter((tab) => tab.startsWith('instrument')), ...all.filter((tab) => !tab.startsWith('instrument'))];
+  const shownNow = [...find('tabs').children].map((tab) => tab.id.replace(/-tab$/, ''));
+  if (names.join() !== shownNow.join()) buildTabs(names);
 }
 
 function showTime(time) {
@@ -59,7 +69,7 @@ function stateOf(time) {
 }
 
 function showTrouble() {
-  const lost = reached ? '' : 'agc-web cannot be reached. If it has ended, its script was saved or printed in the terminal.';
+  const lost = reached ? '' : session.lost;
   setText(find('trouble'), [lost, now.ended, now.trouble, fault].filter(Boolean).join(' '));
 }
 
@@ -75,14 +85,16 @@ const SHOWS = {
   time: showTime,
 };
 
-function listen() {
-  const source = new EventSource(address('events'));
-  source.onopen = () => { reached = true; showTrouble(); };
-  source.onerror = () => { reached = false; showTrouble(); };
-  source.onmessage = (message) => {
-    const parts = JSON.parse(message.data);
-    for (const [part, show] of Object.entries(SHOWS)) if (part in parts) show(parts[part]);
-  };
+function showNews(parts) {
+  Object.assign(shown, parts);
+  for (const [part, show] of Object.entries(SHOWS)) if (part in parts) show(parts[part]);
+  followGuide();
+  followWhy();
+}
+
+function showReached(is) {
+  reached = is;
+  showTrouble();
 }
 
 // what the user wants of time
@@ -104,6 +116,14 @@ async function slide() {
   showTime(now);
 }
 
+// Fills the screen with the DSKY and the view of an instrument, in large letters; a browser that refuses fills its window.
+function setProjector(on) {
+  document.body.classList.toggle('projector', on);
+  find('projector-button').setAttribute('aria-pressed', on);
+  if (on) document.documentElement.requestFullscreen?.().catch(() => {});
+  else if (document.fullscreenElement) document.exitFullscreen();
+}
+
 const SHORTCUTS = {
   ' ': playOrPause,
   '.': step,
@@ -112,6 +132,7 @@ const SHORTCUTS = {
   '>': () => changeSpeed(1),
   D: backToChange,
   u: undo,
+  f: () => setProjector(!document.body.classList.contains('projector')),
   '?': () => find('help').showModal(),
 };
 
@@ -154,9 +175,13 @@ function letGo() {
 function start() {
   buildFace();
   buildInspector();
+  buildWhy();
   find('play').addEventListener('click', playOrPause);
   find('step').addEventListener('click', step);
   find('undo').addEventListener('click', undo);
+  find('phones-button').addEventListener('click', () => find('phones').showModal());
+  find('projector-button').addEventListener('click', SHORTCUTS.f);
+  document.addEventListener('fullscreenchange', () => { if (!document.fullscreenElement) setProjector(false); });
   find('help-button').addEventListener('click', () => find('help').showModal());
   find('speed').addEventListener('change', () => ask('speed', { times: Number(find('speed').value) }));
   for (const button of document.querySelectorAll('[data-back]')) button.addEventListener('click', () => back(Number(button.dataset.back)));
@@ -173,7 +198,7 @@ function start() {
   document.addEventListener('pointerdown', () => { byPointer = true; }, true);
   document.addEventListener('mousedown', (event) => { if (event.target.closest('button')) event.preventDefault(); });
   document.addEventListener('change', (event) => { if (byPointer && event.target.closest('select')) event.target.blur(); });
-  listen();
+  session.listen(showNews, showReached);
 }
 
 start();

@@ -1,25 +1,10 @@
 'use strict';
-// What all parts of the page use: elements, words of the machine as text, and requests to the server.
+// What all parts of the page use: words of the machine as text, and commands to the session.
 
 const LINE = '\n';
-const TOKEN = new URLSearchParams(location.search).get('token') || '';
 const SLOW = 400; // milliseconds after which the page says that it works on something
-const WINDOW = crypto.randomUUID ? crypto.randomUUID() : String(Math.random());
 
 const find = (id) => document.getElementById(id);
-
-// Makes an element with attributes and what stands in it: texts or elements.
-function make(name, attributes = {}, ...inside) {
-  const element = document.createElement(name);
-  for (const [attribute, value] of Object.entries(attributes)) element.setAttribute(attribute, value);
-  element.append(...inside);
-  return element;
-}
-
-// Sets a text only if it is another one, so that nothing is drawn or read aloud twice.
-function setText(element, text) {
-  if (element.textContent !== text) element.textContent = text;
-}
 
 const octal = (word, digits = 5) => word.toString(8).padStart(digits, '0');
 
@@ -31,18 +16,6 @@ function decimal(word, bits = 15) {
 
 const grouped = (number) => String(number).replace(/\B(?=(\d{3})+$)/g, ',');
 
-const address = (path) => `${path}?token=${encodeURIComponent(TOKEN)}&window=${WINDOW}`;
-
-// Posts a body; returns the status and the answer.
-async function post(path, body) {
-  const response = await fetch(path, {
-    method: 'POST',
-    headers: { 'Content-Type': 'application/json', 'X-Token': TOKEN },
-    body: JSON.stringify(body),
-  });
-  return { status: response.status, ...(await response.json()) };
-}
-
 // Runs tasks one after another: a request is sent once the one before is answered, so that keys stay in their order.
 let turn = Promise.resolve();
 let pending = 0;
@@ -53,22 +26,27 @@ function inTurn(task) {
   return done;
 }
 
-// Asks the server to do something, and shows why if it does not. Returns whether it was done.
-async function ask(command, more = {}) {
+// Sends a request once the one before is answered. Returns the answer; null, and says so, if there is none.
+async function request(task) {
   const slow = setTimeout(() => setText(find('state'), 'working …'), SLOW);
   try {
-    const answer = await inTurn(() => post('do', { do: command, ...more }));
-    clearTimeout(slow);
-    if (answer.sure && await confirmed(command, answer.sure)) return ask(command, { ...more, sure: true });
-    showFault(answer.sure ? '' : answer.error || '');
-    return answer.status === 200;
+    return await inTurn(task);
   } catch {
-    showFault('agc-web does not answer.');
-    return false;
+    showFault('There is no answer.');
+    return null;
   } finally {
     clearTimeout(slow);
     showState();
   }
+}
+
+// Asks the session to do something, and shows why if it does not. Returns whether it was done.
+async function ask(command, more = {}) {
+  const answer = await request(() => session.do(command, more));
+  if (!answer) return false;
+  if (answer.sure && await confirmed(command, answer.sure)) return ask(command, { ...more, sure: true });
+  showFault(answer.sure ? '' : answer.error || '');
+  return answer.status === 200;
 }
 
 // Asks the user, in the page, whether what was given since may be dropped.

@@ -1,0 +1,112 @@
+"""Files beside a rope's: its names, the SPEC of the Executive's tables, and guided steps.
+
+For the rope X these are the files X.names, X.watch and X.guide; for a file that is called `rope` also `names`, `watch` and
+`guide`.
+"""
+
+import os
+from contextlib import suppress
+from typing import Callable, NamedTuple, Optional, Tuple
+
+import agc
+
+Start = Callable[[Optional[str]], agc.Console]
+"""Starts a console with a file of names, or without."""
+
+Note = Callable[[str], None]
+"""Says something to the user."""
+
+LONGEST_SPEC = 200  # characters
+LONGEST_GUIDE = 65536  # bytes
+
+
+class Beside(NamedTuple):
+    """A file of names, and the tables' SPEC; None for what there is not."""
+
+    names: Optional[str]
+    watch: Optional[str]
+
+
+def beside(rope: agc.Path) -> Beside:
+    """Returns what the files beside a rope's say."""
+    return Beside(_file_beside(os.fspath(rope), "names"), _first_line(_file_beside(os.fspath(rope), "watch")))
+
+
+def opened(
+    start: Start, names: Optional[str], watch: Optional[str], rope: agc.Path, note: Note,
+) -> Tuple[agc.Console, Beside]:
+    """Starts a console with names and tables: those that were named, else those of the files beside the rope. `start` starts
+    a console with a file of names. If a file beside the rope is refused, `note` says why, and the console does without.
+    Raises `agc.Error` if something else is refused."""
+    found = beside(rope)
+    console, names = _with_names(start, names, found.names, note)
+    try:
+        return console, Beside(names, _with_tables(console, watch, found.watch, note))
+    except agc.Error:
+        console.close()
+        raise
+
+
+def guide_text(named: Optional[str], rope: agc.Path, note: Note) -> Optional[str]:
+    """Returns the text of a file of guided steps: the one that was named, else the one beside the rope; None if there is
+    none. If the file beside the rope cannot be read, `note` says why. Raises `OSError` for one that was named."""
+    path = named if named is not None else _file_beside(os.fspath(rope), "guide")
+    if path is None:
+        return None
+    try:
+        with open(path, "rb") as file:
+            text = file.read(LONGEST_GUIDE + 1)
+        if len(text) > LONGEST_GUIDE:
+            raise OSError(0, f"a guide has {LONGEST_GUIDE} bytes at most", path)
+    except OSError as error:
+        if named is not None:
+            raise OSError(error.errno or 0, error.strerror or str(error), path) from None
+        note(f"{path} is left out: {error.strerror}")
+        return None
+    return text.decode(errors="replace")
+
+
+def _with_names(start: Start, named: Optional[str], found: Optional[str], note: Note) -> Tuple[agc.Console, Optional[str]]:
+    """Starts a console, and returns it with the file of names that it has."""
+    if named is not None or found is None:
+        return start(named), named
+    try:
+        return start(found), found
+    except agc.Error as refused:
+        console = start(None)  # raises once more if it was not for the names
+        note(f"{found} is left out: {_reason(refused)}")
+        return console, None
+
+
+def _with_tables(console: agc.Console, named: Optional[str], found: Optional[str], note: Note) -> Optional[str]:
+    """Returns the SPEC of the tables that the console shows."""
+    watch = named if named is not None else found
+    if watch is None:
+        return None
+    try:
+        console.tables(watch)
+    except agc.Refused as refused:
+        if named is not None:
+            raise
+        note(f"the tables beside the rope are left out: {_reason(refused)}")
+        return None
+    return watch
+
+
+def _reason(refused: agc.Error) -> str:
+    return str(refused).replace("agc-console: ", "", 1)
+
+
+def _file_beside(rope: str, kind: str) -> Optional[str]:
+    """Returns the path of a file beside a rope's, if there is one."""
+    folder, name = os.path.split(rope)
+    paths = [f"{rope}.{kind}"] + ([os.path.join(folder, kind)] if name == "rope" else [])
+    return next((path for path in paths if os.path.isfile(path)), None)
+
+
+def _first_line(path: Optional[str]) -> Optional[str]:
+    """Returns the first line of a file, if it has one."""
+    if path is not None:
+        with suppress(OSError), open(path, encoding="ascii", errors="replace") as file:
+            return file.readline(LONGEST_SPEC).strip() or None
+    return None

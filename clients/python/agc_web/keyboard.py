@@ -1,0 +1,63 @@
+"""The keys that wait until the machine can take them, and PRO, which is held."""
+
+from collections import deque
+from typing import Deque, List, Sequence
+
+from agc import Console
+from agc_web.journal import Event
+
+KEYS = tuple("0123456789+-") + ("VERB", "NOUN", "ENTR", "CLR", "RSET", "KEYREL")
+KEY_GAP = 8533  # cycles between two keys: a tenth of a second
+MOST_WAITING = 100  # keys
+
+
+class Keyboard:
+    """It is used by the machine's thread alone. PRO goes down as "PRO", and comes up as "PRO up"."""
+
+    def __init__(self) -> None:
+        self.waiting: Deque[str] = deque()
+        self.pro_down = False
+        self._last_key = -KEY_GAP
+
+    @property
+    def is_full(self) -> bool:
+        """Whether no further key may wait."""
+        return len(self.waiting) >= MOST_WAITING
+
+    @property
+    def pro_comes_down(self) -> bool:
+        """Whether PRO is down once the keys that wait are through."""
+        waiting = [name for name in self.waiting if name.startswith("PRO")]
+        return waiting[-1] == "PRO" if waiting else self.pro_down
+
+    def is_due(self, cycle: int) -> bool:
+        """Whether a key waits, and the key before it was long enough ago."""
+        return bool(self.waiting) and cycle >= self._last_key + KEY_GAP
+
+    def next_cycles(self, cycle: int) -> List[int]:
+        """Returns the cycle at which the next key is due, if one waits."""
+        return [max(self._last_key + KEY_GAP, cycle + 1)] if self.waiting else []
+
+    def press_next(self, console: Console) -> str:
+        """Presses the key that waits first, and returns its name."""
+        name = self.waiting.popleft()
+        self._last_key = console.cycle
+        if name.startswith("PRO"):
+            console.pro(name == "PRO")
+            self.pro_down = name == "PRO"
+        else:
+            console.key(name)
+        return name
+
+    def release_pro(self, console: Console) -> None:
+        """Lets PRO come up: it was held at a time that is over."""
+        console.pro(False)
+        self.pro_down = False
+        self._last_key = console.cycle
+
+    def find(self, events: Sequence[Event]) -> None:
+        """Finds in the events when the last key went down, and whether PRO is down."""
+        keys = [event for event in events if event.command.startswith(("key", "pro"))]
+        self._last_key = keys[-1].cycle if keys else -KEY_GAP
+        held = [event.command for event in keys if event.command.startswith("pro")]
+        self.pro_down = bool(held) and held[-1] == "pro down"

@@ -1,0 +1,63 @@
+'use strict';
+// A session in a link, behind `#`: JSON, compressed, in base 64. A link opens its session with time stopped.
+
+const MARK = '#session=';
+const LONGEST_LINK = 30000; // characters
+const LONGEST_TEXT_OF_LINK = 2e6; // characters, once it is not compressed any more
+
+// Sends bytes through a stream, and returns what comes out, at most so many bytes.
+async function through(stream, bytes, most) {
+  const writer = stream.writable.getWriter();
+  writer.write(bytes).catch(() => {});
+  writer.close().catch(() => {});
+  const parts = [];
+  let length = 0;
+  for (let reader = stream.readable.getReader(), part = await reader.read(); !part.done; part = await reader.read()) {
+    length += part.value.length;
+    if (length > most) {
+      reader.cancel();
+      throw new Error('it is too long');
+    }
+    parts.push(part.value);
+  }
+  const all = new Uint8Array(length);
+  parts.reduce((at, part) => { all.set(part, at); return at + part.length; }, 0);
+  return all;
+}
+
+// The address of this page with the session behind it; throws an error if that would be too long.
+async function linkOf(files, kept) {
+  const { rope, ...rest } = storedFiles(files);
+  const isAsGiven = files.example && rope === EXAMPLES[files.example].rope;
+  const text = JSON.stringify({ ...(isAsGiven ? { title: files.title, example: files.example, names: files.names, watch: files.watch, sum: sumOf(rope) } : { rope, ...rest }), ...storedRest(kept) });
+  const bytes = await through(new CompressionStream('deflate-raw'), new TextEncoder().encode(text), Infinity);
+  const code = base64Of(bytes).replaceAll('+', '-').replaceAll('/', '_').replaceAll('=', '');
+  if (code.length > LONGEST_LINK) {
+    throw new Error(`The session is too long for a link: ${grouped(code.length)} characters, at most ${grouped(LONGEST_LINK)}. Send its script.`);
+  }
+  return `${location.href.split('#')[0]}${MARK}${code}`;
+}
+
+// Reads the session of a link: {files, kept}. Throws an error that says what is wrong.
+async function readLink(hash) {
+  const code = hash.slice(MARK.length);
+  if (code.length > LONGEST_LINK) throw new Error('it is too long');
+  let text;
+  try {
+    const bytes = bytesOf(code.replaceAll('-', '+').replaceAll('_', '/'));
+    text = new TextDecoder().decode(await through(new DecompressionStream('deflate-raw'), bytes, LONGEST_TEXT_OF_LINK));
+  } catch {
+    throw new Error('it is cut off, or no session');
+  }
+  const found = readSession(text);
+  const { sum } = JSON.parse(text);
+  if (sum !== undefined && sum !== sumOf(EXAMPLES[found.files.example].rope)) throw new Error('it is of another version of this page');
+  return found;
+}
+
+// A number that differs if a text differs, but for rare cases: FNV-1a with 32 bits.
+function sumOf(text) {
+  let sum = 0x811c9dc5;
+  for (let i = 0; i < text.length; i += 1) sum = Math.imul(sum ^ text.charCodeAt(i), 0x01000193) >>> 0;
+  return sum;
+}

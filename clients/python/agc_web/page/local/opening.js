@@ -1,0 +1,209 @@
+'use strict';
+// What is opened: a link's session, the one that this browser keeps, an example, or files that the user chooses or drops.
+
+const EXAMPLES = JSON.parse(dataOf('examples')); // by name {title, about, rope, names, watch, guide, instrument}
+const FIRST = 'verbs';
+const LARGEST_FILE = 4e6; // bytes
+const SCRIPT_LINE = /^\s*(#|\d+\s+(key|pro|input|pulse|raise|poke)\b|$)/;
+
+// Shows a sentence to the user, above the page, until it is closed.
+function say(text) {
+  setText(find('notice-text'), text);
+  find('notice').hidden = !text;
+}
+
+const sentence = (text) => text.replace(/\.?$/, '.');
+
+// Opens a session; if it is refused, says why, and the one before stays. Returns whether it was opened.
+async function openAndSay(files, kept, what) {
+  const why = await session.open(files, kept);
+  if (why) say(what + sentence(why));
+  return !why;
+}
+
+const filesOfExample = (name) => filesOf({ ...EXAMPLES[name], rope: null, example: name });
+
+async function openExample(name) {
+  const why = await session.open(filesOfExample(name));
+  if (why) say(why);
+  else beginToKeep();
+}
+
+// Opens the first session of the page.
+async function openFirst() {
+  buildOpening();
+  if (location.hash.startsWith(MARK) && await openLink()) return;
+  if (await openKept()) return;
+  await openExample(FIRST);
+}
+
+// Opens the session of the link; returns whether it did.
+async function openLink() {
+  try {
+    const { files, kept } = await readLink(location.hash);
+    if (!await openAndSay(files, kept, 'The session of the link cannot be opened: ')) return false;
+    keeping.is = false;
+    say('This session came with the link. A reload opens it anew: download its script to keep what you change.');
+    return true;
+  } catch (error) {
+    say(`The session of the link cannot be opened: ${sentence(error.message)}`);
+    return false;
+  }
+}
+
+// Opens the session that this browser keeps; returns whether it did. One that cannot be opened is put aside.
+async function openKept() {
+  const text = keptText();
+  if (text === null) return false;
+  let why;
+  try {
+    const { files, kept } = readSession(text);
+    why = await session.open(files, kept);
+  } catch (error) {
+    why = error.message;
+  }
+  if (!why) {
+    beginToKeep();
+    return true;
+  }
+  putAside(text);
+  await openExample(FIRST);
+  say(`The session that this browser kept cannot be opened: ${sentence(why)} Its script can be downloaded under Open.`);
+  return true;
+}
+
+// files of the user
+
+// What a file is, by its name or what is in it: a rope, script, names, the tables' SPEC, or guided steps.
+function kindOf(name, bytes) {
+  const kind = name.toLowerCase().match(/(^|\.)(rope|script|names|watch|guide)(\.txt)?$/)?.[2];
+  if (kind) return kind;
+  const text = new TextDecoder().decode(bytes.subarray(0, 1e5));
+  if (!/^[\t\n\r -~]+$/.test(text)) return 'rope';
+  return text.split('\n').slice(0, -1).every((line) => SCRIPT_LINE.test(line)) ? 'script' : 'names';
+}
+
+// Opens the files of a list: a rope, or what goes with the rope that is open.
+async function openFiles(list) {
+  const found = {};
+  for (const file of list) {
+    if (file.size > LARGEST_FILE) {
+      say(`${file.name} is no rope or script: it has ${grouped(file.size)} bytes.`);
+      return;
+    }
+    const bytes = new Uint8Array(await file.arrayBuffer());
+    const kind = kindOf(file.name, bytes);
+    if (found[kind]) {
+      say(`Two files are a ${kind}: ${found[kind].name} and ${file.name}.`);
+      return;
+    }
+    found[kind] = { name: file.name, bytes, text: new TextDecoder().decode(bytes) };
+  }
+  if (!Object.keys(found).length) return;
+  const { rope, script, names, watch, guide } = found;
+  const before = rope ? { title: rope.name.slice(-100), rope: rope.bytes, example: null, instrument: null, options: null } : session.files;
+  const files = {
+    ...before, script: script?.text ?? (rope ? '' : before.script), names: names?.text ?? (rope ? null : before.names),
+    watch: watch?.text.split('\n')[0].trim() ?? (rope ? null : before.watch),
+    guide: guide?.text ?? (rope ? null : before.guide), form: find('parity').checked ? 'parity' : null,
+  };
+  if (await openAndSay(files, null, '')) beginToKeep();
+}
+
+// the dialog
+
+function buildOpening() {
+  const notice = make('p', { id: 'notice', role: 'status', hidden: '' }, make('span', { id: 'notice-text' }), ' ', button('✕', () => say(''), { 'aria-label': 'Close this note' }));
+  find('trouble').before(notice);
+  find('help-button').before(button('Open …', () => showOpening(), { id: 'open-button', 'aria-haspopup': 'dialog' }));
+  document.body.append(openingDialog());
+  const link = button('Link', copyLink, { id: 'link' });
+  find('film').before(link, ' ');
+  find('download').addEventListener('click', (event) => {
+    event.preventDefault();
+    download('session.script', session.script());
+  });
+  find('film').addEventListener('click', (event) => {
+    event.preventDefault();
+    openFilm();
+  });
+  document.addEventListener('dragover', (event) => event.preventDefault());
+  document.addEventListener('drop', (event) => {
+    event.preventDefault();
+    find('open').close();
+    openFiles([...event.dataTransfer.files]);
+  });
+  window.addEventListener('hashchange', () => { if (location.hash.startsWith(MARK)) openLink(); });
+}
+
+function button(text, action, attributes = {}) {
+  const made = make('button', { type: 'button', ...attributes }, text);
+  made.addEventListener('click', action);
+  return made;
+}
+
+function openingDialog() {
+  const choose = (action) => () => {
+    find('open').close();
+    action();
+  };
+  const examples = Object.entries(EXAMPLES).map(([name, { title, about }]) => make('li', {},
+    button(title, choose(() => openExample(name)), { 'data-example': name }), ` ${about}`));
+  const input = make('input', { type: 'file', id: 'files', multiple: '' });
+  input.addEventListener('change', choose(() => openFiles([...input.files]).then(() => { input.value = ''; })));
+  return make('dialog', { id: 'open', 'aria-labelledby': 'open-title' },
+    make('h2', { id: 'open-title' }, 'Open'),
+    make('ul', { id: 'example-list', 'aria-label': 'Examples' }, ...examples),
+    make('p', {}, make('label', {}, 'Your rope, with its script and names if you like: ', input)),
+    make('p', {}, make('label', {}, make('input', { type: 'checkbox', id: 'parity' }), ' with parity bits'), ' (you may also drop files on the page)'),
+    make('p', { class: 'note' }, 'Opening ends the session that is shown. This browser keeps one session; nothing leaves this page.'),
+    make('p', { class: 'row' }, button('Forget the kept session', choose(forgetAndSay), { id: 'forget' }),
+      button('Download the one put aside', () => download('other.script', scriptIn(keptAside())), { id: 'aside' }),
+      button('Close', () => find('open').close(), { id: 'open-close' })));
+}
+
+function showOpening() {
+  find('aside').hidden = keptAside() === null;
+  find('open').showModal();
+}
+
+function forgetAndSay() {
+  forget();
+  say('This browser keeps no session now. The one that is shown goes on, and a reload loses it.');
+}
+
+// Has the browser download a text.
+async function download(name, text) {
+  const address = URL.createObjectURL(new Blob([await text], { type: 'text/plain' }));
+  make('a', { href: address, download: name }).click();
+  setTimeout(() => URL.revokeObjectURL(address), 1000);
+}
+
+// Opens a film of the session in a tab of its own, at once, because a browser opens none later; without one it is downloaded.
+async function openFilm() {
+  const tab = window.open('', '_blank');
+  try {
+    const film = await session.film();
+    if (!tab) {
+      download('film.html', film);
+      return;
+    }
+    tab.opener = null;
+    tab.location.replace(URL.createObjectURL(new Blob([film], { type: 'text/html' })));
+  } catch (error) {
+    tab?.close();
+    say(`There is no film: ${error.message}`);
+  }
+}
+
+async function copyLink() {
+  try {
+    const link = await linkOf(session.files, session.kept());
+    await navigator.clipboard.writeText(link).then(() => say('The link is copied. It holds this session, and opens it with time stopped.'), () => {
+      history.replaceState(null, '', link);
+      say('The address of this page is the link now: copy it there.');
+    });
+  } catch (error) {
+    say(error.message);
+  }
+}

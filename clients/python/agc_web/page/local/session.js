@@ -1,0 +1,152 @@
+'use strict';
+// The session behind the page of agc.html: a machine in a worker of this page. It takes the place of web/session.js, and has the
+// same calls; `open`, `files` and `kept` are for the other files of this folder.
+
+// Whether this browser has what the smaller of the two modules of agc-console needs: it suspends a module that waits, and has
+// memories with 64-bit addresses. Eight bytes and such a memory are a whole module.
+const SUSPENDS = Boolean(WebAssembly.Suspending)
+  && WebAssembly.validate(new Uint8Array([0, 97, 115, 109, 1, 0, 0, 0, 5, 3, 1, 4, 0]));
+
+const bytesOf = (base64) => Uint8Array.from(atob(base64), (sign) => sign.charCodeAt(0));
+const dataOf = (id) => document.getElementById(id).textContent;
+
+const moduleNow = () => ({ code: bytesOf(dataOf(SUSPENDS ? 'console' : 'console-stopping')), stops: !SUSPENDS });
+
+// A worker with one machine, whose news wait until somebody listens.
+class Engine {
+  kept = null; // what is to be kept of the session, as of the last news
+  events = []; // the lines of its events: "~" stands before those of instruments
+  #worker;
+  #calls = new Map();
+  #count = 0;
+  #waiting = [];
+  #news = (news) => this.#waiting.push(news);
+  #lost;
+
+  constructor(lost) {
+    this.#lost = lost;
+    const address = URL.createObjectURL(new Blob([dataOf('worker')], { type: 'text/javascript' }));
+    this.#worker = new Worker(address);
+    this.#worker.onmessage = ({ data }) => this.#take(data);
+    this.#worker.onerror = () => this.#end();
+  }
+
+  call(call, body) {
+    this.#count += 1;
+    this.#worker.postMessage({ id: this.#count, call, body });
+    return new Promise((done) => { this.#calls.set(this.#count, done); });
+  }
+
+  listen(news) {
+    this.#waiting.forEach(news);
+    this.#news = news;
+  }
+
+  close() {
+    this.#worker.terminate();
+  }
+
+  #take({ id, answer, news }) {
+    if (!news) {
+      this.#calls.get(id)(answer);
+      this.#calls.delete(id);
+      return;
+    }
+    const { kept, ...parts } = news;
+    if (kept) this.#keep(kept);
+    this.#news(parts);
+  }
+
+  #keep({ changes, ...kept }) {
+    this.events.length = changes.from;
+    for (const [line, byUser] of changes.lines) this.events.push(byUser ? line : `~${line}`);
+    this.kept = kept;
+  }
+
+  #end() {
+    for (const done of this.#calls.values()) done({ status: 500, error: 'The machine has failed.' });
+    this.#calls.clear();
+    this.#lost();
+  }
+}
+
+let engine = null;
+let page = null; // what listens
+let begin; // the first session is there
+const hasBegun = new Promise((done) => { begin = done; });
+
+async function callEngine(call, body) {
+  await hasBegun;
+  return engine.call(call, body);
+}
+
+const session = {
+  lost: 'The machine has failed. Reload the page: what this browser has kept is still there.',
+  files: null, // {title, rope, script, names, form, watch, guide, example, instrument, options} of the session
+
+  listen(news, reached) {
+    page = { news, reached };
+    openFirst();
+  },
+
+  do: (command, more) => callEngine('do', { do: command, ...more }),
+  look: (wanted) => callEngine('look', wanted),
+  find: (wanted) => callEngine('find', wanted),
+  script: async () => (await callEngine('script')).script,
+  scriptAddress: '#script',
+  filmAddress: '#film',
+
+  // Opens a rope, with what was kept of a session of it. Returns why that is refused, or nothing: then its session is the page's.
+  async open(files, kept = null) {
+    const opened = new Engine(() => page.reached(false));
+    const answer = await opened.call('open', { ...files, module: moduleNow(), kept });
+    if (answer.status !== 200) {
+      opened.close();
+      return answer.error;
+    }
+    if (engine) {
+      engine.close();
+      resetPage();
+    }
+    engine = opened;
+    session.files = files;
+    begin();
+    page.reached(true);
+    engine.listen((news) => {
+      page.news(news);
+      keepSoon();
+    });
+    say(answer.notes.join(' '));
+    return '';
+  },
+
+  // Returns the page of a film of the session so far.
+  async film() {
+    const { script, limit } = await callEngine('script');
+    const { views } = await callEngine('views');
+    const maker = new Engine(() => {});
+    const answer = await maker.call('film', { ...session.files, module: moduleNow(), script, limit });
+    maker.close();
+    if (answer.status !== 200) throw new Error(answer.error);
+    const [head, tail, viewer] = JSON.parse(dataOf('film-page'));
+    const lines = views.map(([cycle, line]) => `${cycle} ${line.replaceAll('<', '\\u003c')}\n`).join('');
+    const more = lines && `<script type="text/plain" id="left-view">\n${lines}<\/script>\n${viewer}`;
+    return head + answer.film + tail.replace('</body>', () => `${more}</body>`);
+  },
+
+  // What is to be kept of the session.
+  kept: () => ({ ...engine.kept, events: engine.events }),
+};
+
+// Takes away what the page shows of the session before.
+function resetPage() {
+  for (const panel of document.querySelectorAll('.panel.instrument')) panel.remove();
+  document.body.classList.remove('with-view');
+  for (const name of Object.keys(TABS)) if (name.startsWith('instrument')) delete TABS[name];
+  for (const part of Object.keys(shown)) delete shown[part];
+  find('tabs').replaceChildren();
+  find('watched').replaceChildren();
+  Object.assign(guiding, { text: undefined, guide: null, at: 0 });
+  Object.assign(inspector, { tab: 'orders', cycle: -1, events: -1, watched: [] });
+  for (const cell of document.querySelectorAll('#memory tbody td, #channels .word')) cell.textContent = '';
+}

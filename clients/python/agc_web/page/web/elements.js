@@ -1,0 +1,24 @@
+'use strict';
+// Elements of the page, and of a film's view: of HTML and of SVG.
+
+// Makes an element with attributes and what stands in it: texts or elements.
+function make(name, attributes = {}, ...inside) {
+  const element = document.createElement(name);
+  for (const [attribute, value] of Object.entries(attributes)) element.setAttribute(attribute, value);
+  element.append(...inside);
+  return element;
+}
+
+// Sets a text only if it is another one, so that nothing is drawn or read aloud twice.
+function setText(element, text) {
+  if (element.textContent !== text) element.textContent = text;
+}
+
+const SVG = 'http://www.w3.org/2000/svg';
+
+function drawn(name, attributes, ...inside) {
+  const element = document.createElementNS(SVG, name);
+  for (const [attribute, value] of Object.entries(attributes)) element.setAttribute(attribute, value);
+  element.append(...inside);
+  return element;
+}

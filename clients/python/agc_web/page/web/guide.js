@@ -1,0 +1,205 @@
+'use strict';
+// Guided steps: a strip that says what to do now and why. What the machine shows moves it on; a click does the step, or skips
+// it. The steps are those of a text file, whose language is in docs/WEB.md.
+
+const KEY_NAMES = new Set([...KEYS.flatMap(([, names]) => names.split(' '))]);
+const FIELDS = { PROG: 2, VERB: 2, NOUN: 2, R1: 6, R2: 6, R3: 6 }; // of the panel, with their lengths
+const ALL_LAMPS = new Set([...LAMPS.filter(Boolean), 'COMP ACTY']);
+const COMPARISONS = { '=': (found, wanted) => found === wanted, '<': (found, wanted) => amount(found) < amount(wanted), '>': (found, wanted) => amount(found) > amount(wanted) };
+
+const shown = {}; // the last news of each part
+const guiding = { guides: [], faults: [], guide: null, at: 0, since: 0, hidden: false };
+
+const amount = (text) => parseFloat(text.replace(/[−,]/g, (sign) => (sign === ',' ? '' : '-')));
+
+// what the file says
+
+// Returns the guides of a file, and its faults, each with its line.
+function parseGuides(text) {
+  const guides = [];
+  const faults = [];
+  text.split(/\r?\n/).forEach((line, i) => {
+    const [, word, rest] = line.match(/^\s*(\S*)\s*(.*?)\s*$/);
+    if (word === '' || word.startsWith('#')) return;
+    const fault = Object.hasOwn(LINES, word) ? LINES[word](guides, rest) : `unknown word ${word}: guide, step, why, click or until`;
+    if (fault) faults.push(`line ${i + 1}: ${fault}`);
+  });
+  for (const { title } of guides.filter(({ steps }) => !steps.length)) faults.push(`guide ${title} has no step`);
+  return { guides: guides.filter(({ steps }) => steps.length), faults };
+}
+
+const lastGuide = (guides) => guides[guides.length - 1];
+const lastStep = (guides) => lastGuide(guides)?.steps[lastGuide(guides).steps.length - 1];
+
+// What each line adds to the guides; returns a fault, or nothing.
+const LINES = {
+  guide(guides, rest) {
+    if (!rest) return 'a guide has a title';
+    guides.push({ title: rest, steps: [] });
+    return '';
+  },
+  step(guides, rest) {
+    if (!guides.length) return 'a step comes after its guide';
+    if (!rest) return 'a step says what to do';
+    lastGuide(guides).steps.push({ what: rest, why: '', clicks: [], until: [] });
+    return '';
+  },
+  why: (guides, rest) => withStep(guides, (step) => { step.why = `${step.why} ${rest}`.trim(); }),
+  click: (guides, rest) => withStep(guides, (step) => addParsed(step.clicks, CLICKS, rest, 'click')),
+  until: (guides, rest) => withStep(guides, (step) => rest.split(/,\s+/).map((each) => addParsed(step.until, CONDITIONS, each, 'until')).find(Boolean)),
+};
+
+function withStep(guides, task) {
+  const step = lastStep(guides);
+  return step ? task(step) || '' : 'this comes after its step';
+}
+
+// Adds what a table makes of a text to a list; returns a fault, or nothing.
+function addParsed(list, table, text, word) {
+  const [name, ...rest] = text.split(/\s+/);
+  if (!Object.hasOwn(table, name)) return `${word} ${name || '(nothing)'} is unknown: ${Object.keys(table).join(', ')}`;
+  const parsed = table[name](rest.join(' '));
+  if (typeof parsed === 'string') return `${word} ${name}: ${parsed}`;
+  list.push(parsed);
+  return '';
+}
+
+// What a click does: each returns a task, or a fault as a text.
+const CLICKS = {
+  keys(text) {
+    const names = text.split(' ');
+    const wrong = names.find((name) => !KEY_NAMES.has(name));
+    return wrong === undefined ? { keys: names, run: () => names.forEach(pressForGuide) } : `no key ${wrong || 'is named'}`;
+  },
+  play: () => ({ run: () => ask('play') }),
+  pause: () => ({ run: () => ask('pause') }),
+  step: () => ({ run: () => ask('step') }),
+  undo: () => ({ run: undo }),
+  why: () => ({ run: explainAlarm }),
+  speed: (text) => (SPEED_STEPS.includes(Number(text)) ? { run: () => ask('speed', { times: Number(text) }) } : 'a speed is 1, 10, 100 or 1000'),
+  press: (text) => (text ? { run: () => pressControl(text) } : 'name a button of an instrument'),
+  tab: (text) => (text ? { run: () => chooseTab(text) } : 'name a tab'),
+  break: (text) => (text ? { run: () => ask('break', { place: text }) } : 'name a place'),
+};
+
+// What moves a step on: each returns a function of what is shown, or a fault as a text.
+const CONDITIONS = {
+  ...Object.fromEntries(Object.entries(FIELDS).map(([name, length]) => [name, (text) => (
+    text.length === length ? () => shown.panel?.[name] === text : `${length} characters, with _ for a blank`)])),
+  FLASH: (text) => (['on', 'off'].includes(text) ? () => shown.panel?.FLASH === text : 'on or off'),
+  lit: (text) => (ALL_LAMPS.has(text) ? () => isLit(text) : `no lamp ${text}`),
+  dark: (text) => (ALL_LAMPS.has(text) ? () => !isLit(text) : `no lamp ${text}`),
+  running: () => () => now.playing,
+  paused: () => () => !now.playing,
+  speed: (text) => (SPEED_STEPS.includes(Number(text)) ? () => now.speed === Number(text) : 'a speed is 1, 10, 100 or 1000'),
+  seconds: (text) => (Number(text) > 0 ? () => now.cycle >= guiding.since + Number(text) * CYCLES_A_SECOND : 'a number of seconds'),
+  row(text) {
+    const [, name, sign, value] = text.match(/^(.+?) ([=<>]) (.+)$/) || [];
+    return name ? () => rowsShown().some(([each, found]) => each === name && COMPARISONS[sign](String(found), value)) : 'NAME = VALUE, NAME < NUMBER or NAME > NUMBER';
+  },
+  outcome: () => () => (shown.instruments || []).some((view) => view.outcome?.text),
+  next: (text) => (text ? () => (shown.machine?.next || '').split(/\s+/).includes(text) : 'a name or an order'),
+};
+
+const isLit = (lamp) => (shown.panel?.LAMPS || '').split(', ').includes(lamp);
+const rowsShown = () => (shown.instruments || []).flatMap((view) => (Array.isArray(view.rows) ? view.rows : []));
+
+// what a click does
+
+function pressForGuide(name) {
+  if (name !== 'PRO') {
+    press(name);
+    return;
+  }
+  ask('pro', { down: true });
+  ask('pro', { down: false });
+}
+
+// Presses a button of an instrument, and lets it up.
+function pressControl(name) {
+  const button = document.querySelector(`[data-control="${CSS.escape(name)}"]`);
+  if (!button) {
+    showFault(`The guide names a button that is not here: ${name}.`);
+    return;
+  }
+  button.hold(true);
+  button.hold(false);
+}
+
+function chooseTab(name) {
+  const tab = [...find('tabs').children].find((each) => each.textContent.toLowerCase() === name.toLowerCase());
+  if (tab) tab.click(); else showFault(`The guide names a tab that is not here: ${name}.`);
+}
+
+// the strip
+
+function loadGuides(text) {
+  if (guiding.text === text) return;
+  Object.assign(guiding, { text, guide: null, at: 0, ...parseGuides(text || '') });
+  showStrip();
+}
+
+function beginGuide(guide) {
+  Object.assign(guiding, { guide, at: 0, since: now.cycle });
+  followGuide();
+}
+
+function nextStep() {
+  guiding.at += 1;
+  guiding.since = now.cycle;
+}
+
+const stepNow = () => guiding.guide?.steps[guiding.at];
+
+// Goes on as far as what is shown says. A step without a condition waits for a click.
+function followGuide() {
+  while (stepNow()?.until.length && stepNow().until.every((holds) => holds())) nextStep();
+  showStrip();
+}
+
+function doStep() {
+  const { clicks, until } = stepNow();
+  for (const { run } of clicks) run();
+  if (!until.length) nextStep();
+  followGuide();
+}
+
+function skipStep() {
+  nextStep();
+  followGuide();
+}
+
+function stripButton(label, name, task, kind = '') {
+  const button = make('button', { type: 'button', class: kind, 'aria-label': name }, label);
+  button.addEventListener('click', task);
+  return button;
+}
+
+const choices = () => guiding.guides.map((guide) => stripButton(guide.title, `Guide: ${guide.title}`, () => beginGuide(guide)));
+
+// Returns what the strip says: a title, what to do, why, and its buttons.
+function stripOf({ guide, at, faults, guides }) {
+  const hide = stripButton('✕', 'Hide the guided steps', () => { guiding.hidden = true; showStrip(); });
+  if (!guide && faults.length) return ['', `The guide has a fault: ${faults[0]}.`, faults.length > 1 ? `${faults.length - 1} more.` : '', [...choices(), hide]];
+  if (!guide) return ['', guides.length ? 'Guided steps:' : '', '', [...choices(), hide]];
+  const end = stripButton('✕', 'End the guided steps', () => { guiding.guide = null; showStrip(); });
+  const step = stepNow();
+  if (!step) return [guide.title, 'That is all.', 'Choose another one:', [...choices(), hide]];
+  const label = step.clicks.some(({ keys }) => keys) ? 'Type it' : 'Do it';
+  const buttons = step.clicks.length ? [stripButton(label, `${label}: ${step.what}`, doStep, 'main')] : [];
+  const skip = step.until.length || step.clicks.length ? 'Skip' : 'Next';
+  return [`${guide.title} ${at + 1}/${guide.steps.length}`, step.what, step.why, [...buttons, stripButton(skip, `${skip} this step`, skipStep), end]];
+}
+
+// Shows the strip; its buttons are made anew only if it says something else.
+function showStrip() {
+  const [title, what, why, buttons] = stripOf(guiding);
+  find('strip').hidden = guiding.hidden || !what;
+  const says = JSON.stringify([title, what, why]);
+  if (guiding.says === says) return;
+  guiding.says = says;
+  setText(find('strip-title'), title);
+  setText(find('strip-what'), what);
+  setText(find('strip-why'), why);
+  find('strip-buttons').replaceChildren(...buttons);
+}

@@ -1,0 +1,144 @@
+'use strict';
+// Why an alarm came: time goes back to the order that caused it, and the tab Alarm says what the Executive had then.
+
+const ALARMS = ['BAILOUT', 'POODOO', 'ALARM']; // the routines that light PROG
+const CALLS = ['NOVAC', 'FINDVAC', 'SPVAC', 'WAITLIST', 'TWIDDLE', 'FIXDELAY', 'VARDELAY']; // what wants a place in a table
+const CODE = 'FAILREG+2'; // the last alarm's code
+const CODES = { 0o1201: 'no VAC area was free', 0o1202: 'no core set was free', 0o1203: 'no place was free in the Waitlist' };
+const COUNTERS = { 0o32: 'CDUX', 0o33: 'CDUY', 0o34: 'CDUZ', 0o35: 'CDUT: rendezvous radar', 0o36: 'CDUS: rendezvous radar', 0o37: 'PIPAX', 0o40: 'PIPAY', 0o41: 'PIPAZ' };
+const SUPERBANK = 0o100; // of the word that core sets keep: banks 30 to 37 are 40 to 47
+
+const why = { names: new Set(), banks: {}, pending: null };
+
+// names
+
+// Keeps the names of places, and of fixed memory their addresses bank by bank.
+function keepNames({ names, places = [] }) {
+  why.names = new Set(names);
+  why.banks = {};
+  places.forEach((place, i) => {
+    const [, bank, address] = place.match(/^(?:(\d\d),)?([0-7]{4})$/) || [];
+    if (!address || (!bank && parseInt(address, 8) < 0o4000)) return;
+    const at = parseInt(address, 8);
+    (why.banks[bank === undefined ? bankOf(at, 0) : parseInt(bank, 8)] ??= []).push([at, names[i]]);
+  });
+  for (const list of Object.values(why.banks)) list.sort(([one], [other]) => one - other);
+}
+
+// Returns the bank of an address, by the banks that a job goes on with.
+function bankOf(address, banks) {
+  if (address >= 0o4000) return address >= 0o6000 ? 3 : 2;
+  const bank = (banks >> 10) & 0o37;
+  return bank >= 0o30 && banks & SUPERBANK ? bank + 0o10 : bank;
+}
+
+// Returns the name of a place as "PREDICT +55", or the place.
+function nameOf(address, banks) {
+  const before = (why.banks[bankOf(address, banks)] || []).filter(([at]) => at <= address).pop();
+  if (!before) return octal(address, 4);
+  return address === before[0] ? before[1] : `${before[1]} +${address - before[0]}`;
+}
+
+const known = (names) => names.filter((name) => why.names.has(name));
+
+// going back
+
+// Searches backwards. Returns what was found, or null, and shows why.
+async function seek(places, before) {
+  const answer = await request(() => session.find({ places, before }));
+  if (answer) showFault(answer.error || '');
+  return answer?.status === 200 ? answer : null;
+}
+
+// Goes back to the last time that a breakpoint would have been hit.
+async function backTo(text) {
+  const found = await seek([text]);
+  return found !== null && ask('go', { cycle: found.cycle });
+}
+
+// Goes back to the order that caused the last alarm: the call of the Executive or the Waitlist that found no room, or else
+// that of the alarm.
+async function explainAlarm() {
+  if (now.playing) await ask('pause');
+  const code = await alarmCode();
+  const alarm = await seek(known(ALARMS));
+  if (!alarm) return;
+  const call = code in CODES ? await seek(known(CALLS), alarm.cycle) : null;
+  const { order } = call || alarm;
+  why.pending = { code, cycle: order };
+  if (await ask('go', { cycle: order })) showTab('why'); else why.pending = null;
+  followWhy();
+}
+
+async function alarmCode() {
+  const seen = await request(() => session.look({ cells: [CODE] }));
+  const word = seen?.cells?.[CODE];
+  return typeof word === 'number' ? word : null;
+}
+
+// what is shown
+
+// Offers the reason if PROG is lit, and shows it once the machine is where it is to be.
+function followWhy() {
+  find('alarm').hidden = !isLit('PROG') || !known(ALARMS).length;
+  if (!why.pending || now.playing) return;
+  const { code, cycle } = why.pending;
+  if (now.cycle < cycle && !why.pending.isOn) { // the instruments went back to the tick before
+    why.pending.isOn = true;
+    ask('go', { cycle });
+  }
+  if (now.cycle !== cycle) return;
+  why.pending = null;
+  showCause(code, cycle);
+  showSets((shown.tables || []).filter((line) => line.startsWith('SET ')));
+  showStolen(cycle);
+}
+
+function showCause(code, cycle) {
+  const [, name, , order] = shown.machine.next.match(/^\S+ (.*?) *([0-7]{5}) (.*)$/) || [];
+  const called = parseInt(order?.split(' ')[1], 8);
+  const alarm = code === null ? 'An alarm' : `Alarm ${octal(code, 4)}`;
+  const reason = CODES[code] ? `${alarm}: ${CODES[code]}.` : `${alarm}.`;
+  const place = name || shown.machine.next.split(' ')[0];
+  const seconds = (cycle / CYCLES_A_SECOND).toFixed(3);
+  setText(find('why-text'), `${reason} ${place} called ${Number.isNaN(called) ? order : nameOf(called, 0)} at ${seconds} s, cycle ${grouped(cycle)}. Time stands before this order.`);
+}
+
+function showSets(lines) {
+  const rows = lines.map((line) => {
+    const [, set, state, priority, loc, banks] = line.match(/^SET (\d+) (\w+)(?: (\d+) LOC (\d+) BANKSET (\d+))?$/) || [];
+    const cells = loc ? [set, priority, nameOf(parseInt(loc, 8), parseInt(banks, 8)), state === 'ASLEEP' ? 'asleep' : ''] : [set, '', 'free', ''];
+    return make('tr', {}, ...cells.map((text) => make('td', {}, text || '')));
+  });
+  find('why-sets').replaceChildren(...rows);
+  const used = lines.filter((line) => !line.endsWith('FREE')).length;
+  const says = used ? `${used} of ${lines.length} core sets are in use, by these jobs:` : `None of the ${lines.length} core sets is in use.`;
+  setText(find('why-used'), lines.length ? says : '');
+}
+
+// Counts the cycles that pulses of counters took in the second before.
+async function showStolen(cycle) {
+  setText(find('why-stolen'), '');
+  const counts = {};
+  let script;
+  try {
+    script = await session.script();
+  } catch {
+    return; // the stream says that the session is gone
+  }
+  for (const line of script.split(LINE)) {
+    const [at, kind, counter] = line.split(' ');
+    if (kind === 'pulse' && Number(at) < cycle && Number(at) >= cycle - CYCLES_A_SECOND) counts[counter] = (counts[counter] || 0) + 1;
+  }
+  const all = Object.entries(counts).sort(([, one], [, other]) => other - one);
+  const sum = all.reduce((total, [, count]) => total + count, 0);
+  const each = all.map(([counter, count]) => `${grouped(count)} of counter ${counter}${COUNTERS[parseInt(counter, 8)] ? ` (${COUNTERS[parseInt(counter, 8)]})` : ''}`);
+  const share = ((100 * sum) / CYCLES_A_SECOND).toFixed(1);
+  setText(find('why-stolen'), sum ? `In the second before, pulses took ${grouped(sum)} of ${grouped(Math.round(CYCLES_A_SECOND))} cycles (${share} %): ${each.join(', ')}.` : '');
+}
+
+function buildWhy() {
+  find('why').addEventListener('click', explainAlarm);
+  find('why-again').addEventListener('click', explainAlarm);
+  find('why-return').addEventListener('click', undo);
+}

@@ -1,0 +1,227 @@
+"""The instruments of a session: their ticks, and their states at past ticks, to which they can go back.
+
+An instrument is an object with `tick(console, cycle)`, called every 10 ms of machine time, from cycle 0 on, and
+`view()`, which returns JSON for a panel of the page: `title`, `rows` of name and value, a `dial` with `angle`, `wanted`
+and `jets`, `controls` with `name`, `label` and `key`, an `outcome` with `text` and `good`, which is shown in large letters,
+and a `drawing`. All parts are optional, and together they have 65,536 bytes at most. If the instrument also has `save()`
+and `load(state)`, it goes back in time with the machine, to the tick before, and films show its view. Each tick of the last
+ten seconds is kept, of the last two hundred seconds one a tenth of a second, before that one a second. If it has
+`control(name, down)`, the buttons of its panel call that as they go down and come up.
+
+A drawing has a `frame` of `left, bottom, right, top` in metres (y is up), which is shown whole, a `label` for screen
+readers, and `shapes`, drawn one over the other:
+
+    {"shape": "line", "points": [[0, 0], [9, 4.5]]}
+    {"shape": "path", "points": [[0, 0], [1, 2], ..]}                      open
+    {"shape": "polygon", "points": [[0, 0], [1, 2], [2, 0], ..]}           closed, and filled
+    {"shape": "circle", "at": [3, 4], "radius": 2}
+    {"shape": "text", "at": [3, 4], "text": "Site", "align": "middle"}     or "start", which is usual, or "end"
+
+`style` gives a shape its colour: ground, site, craft, flame, jet, behind, ahead, scale or mark. A text has the same size
+in any frame, and at most 80 characters. The page leaves out what is no shape, and numbers beyond 1e9; it draws 400 shapes
+at most, of 1,000 points each. examples/descent/side_view.py draws a flight.
+"""
+
+import json
+from collections import deque
+from typing import Any, Deque, Dict, List, NamedTuple, Sequence, Tuple
+
+from agc import Console
+
+MOST_BYTES = 65536  # of a view: the page gets up to fifty a second
+FILMED = 10  # ticks between two views of a film
+MOST_FILMED = 3000  # views of a film
+FILM_PARTS = ("title", "outcome", "drawing", "dial", "rows")  # of a view
+
+Mark = Tuple[int, int, List[Any]]
+"""A tick of the instruments: its number, its cycle, and their states before it."""
+
+View = Tuple[int, List[Dict[str, Any]]]
+"""What instruments showed from a cycle on."""
+
+
+class Control(NamedTuple):
+    """A button of a panel that went down or came up: at which cycle, after how many ticks, and which one."""
+
+    cycle: int
+    ticks: int
+    instrument: int
+    name: str
+    down: bool
+
+
+class Past(NamedTuple):
+    """What going back drops of the instruments: their states, how many ticks there were, marks, and buttons."""
+
+    states: List[Any]
+    ticks: int
+    marks: List[Mark]
+    controls: List[Control]
+
+
+class Ticker:
+    """Ticks the instruments. It is used by the machine's thread alone."""
+
+    def __init__(self, instruments: Sequence[Any]) -> None:
+        self.instruments = list(instruments)
+        self.is_ticking = False
+        """Whether an instrument gives events at the moment."""
+        self._ticks = 0
+        self._marks = Marks()
+        self._controls: List[Control] = []
+
+    def next_cycles(self) -> List[int]:
+        """Returns the cycle of the next tick, if there are instruments."""
+        return [_cycle_of_tick(self._ticks)] if self.instruments else []
+
+    def tick_due(self, console: Console) -> None:
+        """Ticks the instruments, if their time has come."""
+        if not self.instruments or console.cycle < _cycle_of_tick(self._ticks):
+            return
+        self._marks.add(self._ticks, console.cycle, self._states())
+        self._ticks += 1
+        self.is_ticking = True
+        try:
+            for instrument in self.instruments:
+                instrument.tick(console, console.cycle)
+        finally:
+            self.is_ticking = False
+
+    def control(self, number: int, name: str, down: bool, cycle: int) -> None:
+        """Calls an instrument for a button of its panel that goes down or comes up."""
+        if not 0 <= number < len(self.instruments) or not hasattr(self.instruments[number], "control"):
+            raise ValueError(f"no instrument with controls: {number}")
+        try:
+            self.instruments[number].control(name, down)
+        except LookupError:
+            raise ValueError(f"no control: {name!r:.20}") from None
+        self._controls.append(Control(cycle, self._ticks, number, name, down))
+
+    def repeat(self, control: Control) -> None:
+        """Calls an instrument once more for a button that going back has dropped."""
+        self.control(control.instrument, control.name, control.down, control.cycle)
+
+    def pressed_since(self, cycle: int) -> int:
+        """Returns how many buttons went down from a cycle on."""
+        return sum(control.cycle >= cycle and control.down for control in self._controls)
+
+    def mark_before(self, cycle: int) -> Mark:
+        """Returns the tick to which the instruments go back for a cycle; the cycle itself if there are none."""
+        return self._marks.before(cycle) if self.instruments else (0, cycle, [])
+
+    def go_back(self, mark: Mark) -> Past:
+        """Takes the instruments back to a tick, and returns what that drops."""
+        number, cycle, states = mark
+        controls = [control for control in self._controls if _is_after(control, mark)]
+        past = Past(self._states(), self._ticks, self._marks.taken_from(number), controls)
+        self._controls = [control for control in self._controls if not _is_after(control, mark)]
+        self._load(states)
+        self._ticks = number
+        return past
+
+    def restore(self, past: Past, mark: Mark) -> None:
+        """Restores what going back to a tick has dropped."""
+        self._load(past.states)
+        self._marks.taken_from(mark[0])
+        self._marks.put_back(past.marks)
+        self._controls = [control for control in self._controls if not _is_after(control, mark)] + past.controls
+        self._ticks = past.ticks
+
+    def views(self) -> List[Any]:
+        """Returns what the instruments show."""
+        return [_view_of(each) for each in self.instruments]
+
+    def past_views(self, cycle: int) -> List[View]:
+        """Returns what those instruments showed that go back in time, from the beginning up to the present cycle."""
+        now = self._states()
+        marks = self._marks.every(FILMED)
+        step = -(-len(marks) // MOST_FILMED) or 1
+        found: List[View] = []
+        try:
+            for _, at, states in marks[::step]:
+                self._load(states)
+                _add_views(found, at, self.instruments)
+        finally:
+            self._load(now)
+        _add_views(found, cycle, self.instruments)
+        return found
+
+    def _states(self) -> List[Any]:
+        return [each.save() if hasattr(each, "save") else None for each in self.instruments]
+
+    def _load(self, states: List[Any]) -> None:
+        for each, state in zip(self.instruments, states):
+            if hasattr(each, "load"):
+                each.load(state)
+
+
+def _is_after(control: Control, mark: Mark) -> bool:
+    """Whether a button went down or came up after the states of a mark were taken: at the mark's own cycle it did so before
+    them, unless the tick had happened."""
+    number, cycle, _ = mark
+    return control.cycle > cycle or control.cycle == cycle and control.ticks > number
+
+
+def _cycle_of_tick(number: int) -> int:
+    """Returns the cycle of a tick: each is a hundredth of a second after the one before."""
+    return -(-number * 2560 // 3)
+
+
+def _add_views(found: List[View], cycle: int, instruments: Sequence[Any]) -> None:
+    """Adds what the instruments show, if it is other than before."""
+    views = [_view_of(each) for each in instruments if hasattr(each, "load")]
+    shown = [{part: view[part] for part in FILM_PARTS if part in view} for view in views]
+    if shown and (not found or found[-1][1] != shown):
+        found.append((cycle, shown))
+
+
+def _view_of(instrument: Any) -> Any:
+    """Returns what an instrument shows; if it fails or shows what is no JSON object or is too long, what went wrong."""
+    try:
+        view = instrument.view()
+        length = len(json.dumps(view, allow_nan=False))
+        if not isinstance(view, dict):
+            raise TypeError("a view is a dictionary")
+        if length > MOST_BYTES:
+            raise ValueError(f"a view of {length} bytes: {MOST_BYTES} at most")
+        return view
+    except Exception as error:
+        return {"title": type(instrument).__name__, "rows": [["failed", repr(error)]]}
+
+
+class Marks:
+    """The states of instruments at past ticks: each of the last ten seconds, one a tenth of a second of the last two hundred, and
+    one a second before."""
+
+    KEPT = ((1, 1000), (10, 2000), (100, None))
+    """The ticks from one to the next, and how many are kept."""
+
+    def __init__(self) -> None:
+        self._levels: List[Deque[Mark]] = [deque(maxlen=most) for _, most in self.KEPT]
+
+    def add(self, tick: int, cycle: int, states: List[Any]) -> None:
+        """Keeps the states before a tick."""
+        for (step, _), level in zip(self.KEPT, self._levels):
+            if tick % step == 0:
+                level.append((tick, cycle, states))
+
+    def before(self, cycle: int) -> Mark:
+        """Returns the last mark at a cycle or earlier."""
+        found = [next((mark for mark in reversed(level) if mark[1] <= cycle), (0, 0, [])) for level in self._levels]
+        return max(found, key=lambda mark: (mark[0], bool(mark[2])))
+
+    def every(self, ticks: int) -> List[Mark]:
+        """Returns the marks whose ticks are divisible by a number, in their order."""
+        found = {mark[0]: mark for level in self._levels for mark in level if mark[0] % ticks == 0}
+        return [found[number] for number in sorted(found)]
+
+    def taken_from(self, tick: int) -> List[Mark]:
+        """Takes the marks from a tick on away, and returns them in their order."""
+        taken = [mark for mark in self.every(1) if mark[0] >= tick]
+        self._levels = [deque((mark for mark in level if mark[0] < tick), maxlen=level.maxlen) for level in self._levels]
+        return taken
+
+    def put_back(self, marks: List[Mark]) -> None:
+        """Puts marks back that were taken."""
+        for mark in marks:
+            self.add(*mark)
