@@ -3,65 +3,95 @@
 
 The craft is a point mass with one angle in a vertical plane over a flat Moon. Every hundredth of a second of machine
 time it takes what the computer has written (jets, throttle, engine), moves, and gives back what the computer's
-instruments count: pulses of the two accelerometers and of the tilt's encoder, and the landing radar's altitude. Neither
+instruments count: pulses of the two accelerometers and of the tilt's encoder, and what the landing radar measures. Neither
 side looks at a clock, so each flight is the same every time. The erasable load, the keys of the crew and the downlink's
-interrupts come from here too.
+interrupts come from here too. README.md has the craft's equations.
 """
 
 import argparse
 import copy
 import math
 import os
-import random
 import sys
+import threading
+from contextlib import suppress
+
+import side_view
+from exact import SEEDS, Noise, degrees, nearest, sine_and_cosine
 
 here = os.path.dirname(os.path.realpath(__file__))
 sys.path.append(os.path.join(here, "..", "..", "clients", "python"))
-from agc import Console, Ended, Refused, Write  # noqa: E402
+from agc import Console, Error, Refused, Write  # noqa: E402
 
 ROPE = os.path.join(here, "rope")
 SECOND = 256000 / 3  # cycles
 STEP = 0.01  # seconds
 
-PIPAX, PIPAZ, CDUY = 0o37, 0o41, 0o33
-JETS, LAMPS, CONTACT, RADAR, THROTTLE = 0o5, 0o11, 0o30, 0o41, 0o42
+PIPAX, PIPAZ, CDUY, RNRAD = 0o37, 0o41, 0o33, 0o46
+JETS, LAMPS, RADAR, RATE_SWITCH, CONTACT, HAND_CONTROLLER, THROTTLE = 0o5, 0o11, 0o13, 0o16, 0o30, 0o31, 0o42
 ENGINE_ON = 1 << 12
-DOWNRUPT = 8
+KEYRUPT2, DOWNRUPT, RADARUPT, RUPT10 = 6, 8, 9, 10
+ALTITUDE, FORWARD_SPEED, UPWARD_SPEED = 0o17, 0o16, 0o14  # what bits 1 to 4 of channel 13 want of the radar
 
 GRAVITY = 1.62  # m/s/s
 EXHAUST = 3050.0  # m/s
 PULSE = 0.0585  # m/s, of an accelerometer
+FASTEST = {PIPAX: 32, PIPAZ: 32, CDUY: 64}  # pulses that an instrument sends in a hundredth of a second at most
+RADIAN = 3.141592653589793 / 180
 DEGREE = 32768 / 360  # pulses of CDUY
-TURNING = math.radians(4.0)  # what a jet brings each second, in radians a second
+TURNING = 4.0 * RADIAN  # what a jet brings each second, in radians a second
 LAG = 0.2  # seconds, of the engine
 FULL = 45000.0  # N
-DRY = 6500.0  # kg
+DRY = 6500.0  # kg, without fuel
+LOADED = 8500.0  # kg, with all of it
 LEG = 0.2  # m: a leg's probe touches the ground so high up
-KEYS = (*"0123456789+-", "VERB", "NOUN", "ENTR", "CLR", "RSET", "KEYREL", "PRO")
+CLIMB = 30.0  # m/s: an aborted flight is shown until it climbs so fast
+ABORTED = 10.0  # m/s up: no landing climbs so fast
+LIMITS = (1.5, 0.6, 3.0)  # of a landing: m/s down, m/s forward or back, degrees
+CLICKS = {
+    "ROD+": (RATE_SWITCH, 0o40, 0, KEYRUPT2),
+    "ROD-": (RATE_SWITCH, 0o100, 0, KEYRUPT2),
+    "ACA+": (HAND_CONTROLLER, 0o77776, 0o77777, RUPT10),
+    "ACA-": (HAND_CONTROLLER, 0o77775, 0o77777, RUPT10),
+}
+"""Clicks of the switch for the rate of descent and of the hand controller: channel, its word then and afterwards, interrupt."""
+KEYS = (*"0123456789+-", "VERB", "NOUN", "ENTR", "CLR", "RSET", "KEYREL", "PRO", *CLICKS)
+HELD = 20  # hundredths of a second in which PRO and clicks are held
+FAULTS = ("radar", "forward-jet", "back-jet", "engine")
 
 
 class Craft:
     """Where the craft is and how it moves, and what its instruments have counted."""
 
-    def __init__(self, height=2300.0, way=7500.0, forward=150.0, down=45.0, seed=1):
-        noise = random.Random(seed)
+    def __init__(self, height=2300.0, way=7500.0, forward=150.0, down=45.0, seed=1, fuel=LOADED - DRY):
+        noise = Noise(seed)
         self.noise = noise
         self.height, self.way, self.forward, self.up = height, way, forward, -down
-        self.mass = 8500.0 * (1 + noise.uniform(-0.015, 0.015))
-        self.known_height = height + noise.uniform(-40, 40)
-        self.tilt = math.radians(-43 + noise.uniform(-3, 3))
-        self.turning = math.radians(noise.uniform(-0.5, 0.5))
+        self.mass = max(DRY, LOADED * (1 + noise.between(-0.015, 0.015)) - (LOADED - DRY - fuel))
+        self.known_height = height + noise.between(-40, 40)
+        self.known_mass = LOADED
+        self.tilt = (-43 + noise.between(-3, 3)) * RADIAN
+        self.turning = noise.between(-0.5, 0.5) * RADIAN
+        self.known_forward = forward + noise.between(-2, 2)
+        self.known_up = -down + noise.between(-1, 1)
+        self.wanted = self.answered = 0
         self.thrust = self.command = 25500.0
         self.jets = 0
         self.engine = False
         self.flying = False
         self.touched = None
         self.contact = False
+        self.seconds = 0.0
+        self.faults = []
         self.counted = {PIPAX: 0.0, PIPAZ: 0.0}
         self.sent = {PIPAX: 0, PIPAZ: 0, CDUY: self.angle()}
 
     def angle(self):
-        return math.floor(math.degrees(self.tilt) * DEGREE)
+        return math.floor(degrees(self.tilt) * DEGREE)
+
+    def fails(self, part):
+        """Whether a part of the craft is at fault now."""
+        return any(part == kind and begin <= self.seconds < end for kind, begin, end in self.faults)
 
     def take(self, write):
         """A channel write of the computer."""
@@ -69,74 +99,122 @@ class Craft:
             self.jets = write.value
         elif write.channel == THROTTLE:
             self.command = 4.0 * write.value
+        elif write.channel == RADAR:
+            self.wanted = write.value & 0o17
         elif write.channel == LAMPS:
             self.engine = bool(write.value & ENGINE_ON)
             self.flying = self.flying or self.engine
 
     def step(self):
         """Moves for a hundredth of a second. The craft is held until its engine is on for the first time."""
+        self.seconds += STEP
         if not self.flying:
             return
-        wanted = self.command if self.engine else 0.0
-        self.thrust += (wanted - self.thrust) * STEP / LAG
-        self.mass -= self.thrust / EXHAUST * STEP
+        self.burn()
         if self.touched:
             self.counted[PIPAX] += GRAVITY * STEP
             return
+        sine, cosine = sine_and_cosine(self.tilt)
         push = self.thrust / self.mass
-        along, up = push * math.sin(self.tilt), push * math.cos(self.tilt)
-        self.counted[PIPAZ] += along * STEP
-        self.counted[PIPAX] += up * STEP
-        self.turning += TURNING * (bool(self.jets & 1) - bool(self.jets & 2)) * STEP
+        along, up = push * sine, push * cosine
+        counted = self.counted
+        counted[PIPAZ] += along * STEP
+        counted[PIPAX] += up * STEP
+        if self.jets or self.faults:
+            forward_jet = self.jets & 1 or self.fails("forward-jet")
+            back_jet = self.jets & 2 or self.fails("back-jet")
+            self.turning += TURNING * (bool(forward_jet) - bool(back_jet)) * STEP
         self.tilt += self.turning * STEP
         self.forward += along * STEP
         self.up += (up - GRAVITY) * STEP
         self.way -= self.forward * STEP
         self.height += self.up * STEP
         if self.height <= 0:
-            self.touched = (self.up, self.forward, math.degrees(self.tilt), self.way)
+            self.touch()
+
+    def burn(self):
+        """The engine follows its command with a lag, and burns fuel while there is some."""
+        fails = self.faults and self.fails("engine")
+        wanted = self.command if self.engine and not fails else 0.0
+        self.thrust += (wanted - self.thrust) * STEP / LAG
+        self.mass -= self.thrust / EXHAUST * STEP
+        if self.mass <= DRY:
+            self.mass, self.thrust = DRY, 0.0
+
+    def touch(self):
+        """The ground stops the craft, and its accelerometers count that."""
+        self.touched = (self.up, self.forward, degrees(self.tilt), self.way)
+        self.counted[PIPAX] -= self.up
+        self.counted[PIPAZ] -= self.forward
+        self.up = self.forward = self.turning = 0.0
+
+    def landed(self):
+        """Whether the craft touched the ground within the limits of a landing."""
+        if not self.touched:
+            return False
+        down, forward, tilt = LIMITS
+        return self.touched[0] > -down and abs(self.touched[1]) < forward and abs(self.touched[2]) < tilt
 
     def pulses(self):
         """The pulses since the last call: counter, kind and how many."""
-        now = {PIPAX: math.floor(self.counted[PIPAX] / PULSE), PIPAZ: math.floor(self.counted[PIPAZ] / PULSE)}
-        now[CDUY] = self.angle()
-        for counter, value in now.items():
+        up, forward = math.floor(self.counted[PIPAX] / PULSE), math.floor(self.counted[PIPAZ] / PULSE)
+        for counter, value in ((PIPAX, up), (PIPAZ, forward), (CDUY, self.angle())):
             more = value - self.sent[counter]
-            self.sent[counter] = value
             if more:
+                more = max(-FASTEST[counter], min(FASTEST[counter], more))
+                self.sent[counter] += more
                 kinds = ("pcdu", "mcdu") if counter == CDUY else ("pinc", "minc")
                 yield counter, kinds[more < 0], abs(more)
 
     def radar(self):
-        """The radar's altitude in quarter metres, with its noise."""
-        seen = self.height + self.noise.gauss(0, 0.3 + 0.005 * abs(self.height))
-        return max(1, min(16383, round(4 * seen)))
+        """The radar's word, once for each change of what channel 13 wants; None without one."""
+        if self.wanted == self.answered or self.fails("radar") or not self.flying or self.touched:
+            return None
+        self.answered = self.wanted
+        if self.wanted == ALTITUDE:
+            seen = self.height + self.noise.normal(0.3 + 0.005 * abs(self.height))
+            return max(1, min(16383, nearest(4 * seen)))
+        sine, cosine = sine_and_cosine(self.tilt)
+        if self.wanted == FORWARD_SPEED:
+            return self.speed_word(self.forward * cosine - self.up * sine)
+        if self.wanted == UPWARD_SPEED:
+            return self.speed_word(self.forward * sine + self.up * cosine)
+        return None
+
+    def speed_word(self, speed):
+        """A speed with the radar's noise, in 64ths of m/s."""
+        seen = 64 * (speed + self.noise.normal(0.1 + 0.005 * abs(speed)))
+        magnitude = min(16383, nearest(abs(seen)))
+        return magnitude if seen >= 0 else magnitude ^ 0o77777
 
 
 def double(value):
     """A number as two words of fourteen digits, the upper one in units of one."""
-    parts = round(abs(value) * 16384)
+    parts = nearest(abs(value) * 16384)
     upper, lower = parts >> 14, parts & 0o37777
     return (upper, lower) if value >= 0 else (upper ^ 0o77777, lower ^ 0o77777)
 
 
 def load(craft):
     """The erasable load: bank, offset and word of each cell."""
-    state = [-craft.way, 64 * craft.forward, craft.known_height, 64 * craft.up, 8500]
+    state = [-craft.way, 64 * craft.known_forward, craft.known_height, 64 * craft.known_up, craft.known_mass]
     words = [word for value in state for word in double(value)]
     return [(3, offset, word) for offset, word in enumerate(words)] + [(0, CDUY, craft.angle() % 32768)]
 
 
 APPROACH = {0.5 + 0.25 * n: key for n, key in enumerate("VERB 3 7 ENTR 6 4 ENTR PRO".split())}
+BRAKING = {0.5 + 0.25 * n: key for n, key in enumerate("VERB 3 7 ENTR 6 3 ENTR PRO".split())}
 
 
 def report(agc, craft, step):
-    """Sends the computer what the instruments counted in a step, and the downlink's interrupt."""
+    """Sends the computer what the instruments counted in a step, what the radar measured, and the downlink's interrupt."""
     for counter, kind, count in craft.pulses():
         for _ in range(count):
             agc.pulse(counter, kind)
-    if craft.flying and step % 20 == 0 and not craft.touched:
-        agc.input(RADAR, craft.radar())
+    word = craft.radar()
+    if word is not None:
+        agc.poke(0, RNRAD, word)
+        agc.raise_interrupt(RADARUPT)
     if not craft.contact and craft.height <= LEG:
         craft.contact = True
         agc.input(CONTACT, 0o37577)
@@ -144,14 +222,53 @@ def report(agc, craft, step):
         agc.raise_interrupt(DOWNRUPT)
 
 
-def fly(agc, craft, keys=APPROACH, seconds=400, disturb=None):
-    """Flies, and yields the seconds and the writes of each step, up to three seconds after the ground.
+def press(agc, key):
+    """Presses a key of the display, or clicks a switch of the cabin. Returns whether it must be released."""
+    if key == "PRO":
+        agc.pro(True)
+    elif key in CLICKS:
+        channel, word, _, interrupt = CLICKS[key]
+        agc.input(channel, word)
+        agc.raise_interrupt(interrupt)
+    else:
+        agc.key(key)
+    return key == "PRO" or key in CLICKS
 
-    keys says which key comes at which second; disturb is called at each step for what else happens there."""
+
+def release(agc, key):
+    """Releases PRO or a switch."""
+    if key == "PRO":
+        agc.pro(False)
+    else:
+        channel, _, word, _ = CLICKS[key]
+        agc.input(channel, word)
+
+
+def climbs_away(agc, craft):
+    """Whether the flight was aborted, and the craft is on its way up."""
+    return craft.engine and craft.up >= CLIMB and agc.panel()["PROG"] == "70"
+
+
+def fly(agc, craft, keys=APPROACH, seconds=900, disturb=None):
+    """Flies, and yields the seconds and the writes of each step, up to three seconds after the ground, or until the craft
+    climbs away, or ten seconds after the last key if its engine is not on by then.
+
+    keys says which key comes at which second; disturb is called at each step for what else happens there. The events of a
+    step go to the console with the next command."""
+    agc.defer()
+    try:
+        yield from steps_of(agc, craft, keys, seconds, disturb)
+    finally:
+        agc.defer(False)
+
+
+def steps_of(agc, craft, keys, seconds, disturb):
+    """The steps of fly."""
     for bank, offset, word in load(craft):
         agc.poke(bank, offset, word)
     due = sorted(keys.items())
-    released = None
+    last_key = due[-1][0] if due else 0
+    held = []  # each key that is held, and the step of its release
     ended = None
     for step in range(1, round(seconds / STEP) + 1):
         now = step * STEP
@@ -160,16 +277,12 @@ def fly(agc, craft, keys=APPROACH, seconds=400, disturb=None):
             craft.take(write)
         craft.step()
         report(agc, craft, step)
-        if released is not None and step >= released:
-            agc.pro(False)
-            released = None
+        while held and step >= held[0][1]:
+            release(agc, held.pop(0)[0])
         while due and due[0][0] <= now + 1e-9:
             key = due.pop(0)[1]
-            if key == "PRO":
-                agc.pro(True)
-                released = step + 20
-            else:
-                agc.key(key)
+            if press(agc, key):
+                held.append((key, step + HELD))
         if disturb:
             disturb(agc, now)
         yield now, writes
@@ -177,14 +290,74 @@ def fly(agc, craft, keys=APPROACH, seconds=400, disturb=None):
             ended = ended or now
             if now - ended >= 3:
                 return
+        elif step % 100 == 0 and (climbs_away(agc, craft) or not craft.flying and now > last_key + 10):
+            return
+
+
+def touchdown(craft):
+    """Returns how the craft touched the ground."""
+    up, forward, tilt, way = craft.touched
+    verdict = "within the limits" if craft.landed() else "OUTSIDE THE LIMITS"
+    return f"{up:+.2f} m/s up, {forward:+.2f} m/s forward, tilt {tilt:+.2f}, {way:+.1f} m to go: {verdict}"
+
+
+def outcome(craft):
+    """Returns how the flight has ended in words and whether that is good, for the page; nothing before the end."""
+    if not craft.touched:
+        climbs = f"Aborted: {craft.up:.0f} m/s up, {craft.height:.0f} m high" if craft.up > ABORTED else ""
+        return {"text": "Out of fuel" if craft.mass <= DRY else climbs, "good": False}
+    up, forward, tilt, way = craft.touched
+    place = f"{abs(way):.0f} m from the site"
+    if craft.landed():
+        return {"text": f"Landed: {-up:.2f} m/s, {place}", "good": True}
+    found = ((-up, "m/s down"), (abs(forward), "m/s sideways"), (abs(tilt), "degrees of tilt"))
+    why = [f"{value:.2f} {unit}, at most {most:g}" for (value, unit), most in zip(found, LIMITS) if not value < most]
+    return {"text": f"{'Out of fuel' if craft.mass <= DRY else 'Crashed'}: {'; '.join(why)}; {place}", "good": False}
+
+
+def flight_of(craft):
+    """Returns what the side view draws of a craft."""
+    moves = craft.flying and not craft.touched
+    push = craft.thrust / craft.mass if moves else 0.0
+    sine, cosine = sine_and_cosine(craft.tilt)
+    return side_view.Flight(
+        -craft.way, max(0.0, craft.height), craft.forward, craft.up, craft.tilt,
+        craft.thrust / FULL if moves else 0.0, (craft.jets & 1 > 0, craft.jets & 2 > 0),
+        (push * sine, push * cosine - GRAVITY), not moves,
+    )
+
+
+def unsigned_zero(value, digits):
+    """Rounds a number, and gives zero no sign."""
+    return round(value, digits) + 0.0
+
+
+WATCHES = "VERB 1 6 NOUN 6 8 ENTR".split()  # the crew watches the range, which takes time of the computer
+ABORT = "VERB 3 7 ENTR 7 0 ENTR".split()
+RENDEZVOUS = 0o36  # counts the rendezvous radar's angle
+PULSES = 65  # of it in a hundredth of a second, each a cycle: some 6,500 a second
+SWITCHES = {"rate-up": "ROD+", "rate-down": "ROD-", "farther": "ACA+", "nearer": "ACA-"}  # the buttons that are clicks
+KEY_TICKS, WAIT_TICKS, RADAR_TICKS = 25, 200, 700  # between two keys; from the last one to the pulses; of pulses
 
 
 class Instrument:
     """The craft as an instrument of agc-web. The user presses the keys: V37E, 64E, then PRO."""
 
-    def __init__(self, craft):
+    def __init__(self, craft, seed=1, craft_of_seed=None):
         self.craft = craft
         self.ticks = 0
+        self.behind = ()  # where the craft was, second by second
+        self.switched = None  # the tick at which the rendezvous radar was switched on
+        self.clicked = ()  # clicks that come with the next tick
+        self.held = ()  # each click that is held, and the tick of its release
+        self.typing = ()  # the keys of a button that are still to be pressed
+        self.seed = seed
+        self.craft_of_seed = craft_of_seed or (lambda seed: Craft(seed=seed))
+        self.session = self.next_craft = None
+
+    def attach(self, session):
+        """Keeps the session, which can go back."""
+        self.session = session
 
     def tick(self, agc, cycle):
         """Moves for a hundredth of a second by what the computer commands."""
@@ -192,47 +365,166 @@ class Instrument:
             for bank, offset, word in load(self.craft):
                 agc.poke(bank, offset, word)
         self.ticks += 1
-        for channel in (JETS, THROTTLE, LAMPS):
-            self.craft.take(Write(cycle, channel, agc.channel(channel)))
+        channels = (JETS, THROTTLE, LAMPS, RADAR)
+        for channel, word in zip(channels, agc.channels(channels)):
+            self.craft.take(Write(cycle, channel, word))
         self.craft.step()
-        report(agc, self.craft, self.ticks)
+        agc.defer()
+        try:
+            report(agc, self.craft, self.ticks)
+            self.rendezvous(agc)
+            self.click(agc)
+            self.type_next(agc)
+        finally:
+            agc.defer(False)
+        if self.ticks % 100 == 0 and self.craft.flying and not self.craft.touched:
+            self.behind += ((-self.craft.way, self.craft.height),)
+
+    def rendezvous(self, agc):
+        """Has the crew watch the range, and sends the rendezvous radar's pulses: together they are more than the computer
+        has time for, and the alarm is 1202. A script has no room for the pulses of more than seven seconds."""
+        since = -1 if self.switched is None else self.ticks - self.switched
+        keyed = len(WATCHES) * KEY_TICKS
+        if 0 <= since < keyed and since % KEY_TICKS == 0:
+            agc.key(WATCHES[since // KEY_TICKS])
+        elif 0 <= since - keyed - WAIT_TICKS < RADAR_TICKS:
+            for _ in range(PULSES):
+                agc.pulse(RENDEZVOUS, "pcdu")
+
+    def type_next(self, agc):
+        """Presses the next key that a button has typed, four a second."""
+        if self.typing and self.ticks % KEY_TICKS == 0:
+            agc.key(self.typing[0])
+            self.typing = self.typing[1:]
+
+    def click(self, agc):
+        """Clicks the switches whose buttons went down, and releases those that were held long enough."""
+        for key, tick in self.held:
+            if tick == self.ticks:
+                release(agc, key)
+        for key in self.clicked:
+            press(agc, key)
+        ended = self.ticks + HELD
+        self.held = (*(each for each in self.held if each[1] > self.ticks), *((key, ended) for key in self.clicked))
+        self.clicked = ()
+
+    def control(self, name, down):
+        """Does what a button of the page says, as it goes down."""
+        if name in SWITCHES:
+            self.clicked += (SWITCHES[name],) * down
+            return
+        acts = {
+            "rendezvous": self.switch_rendezvous, "landing": self.switch_landing, "again": self.begin_again, "abort": self.type_abort,
+        }
+        act = acts[name]
+        if down:
+            act()
+
+    def type_abort(self):
+        """Types V37E70E, in flight, unless keys are being typed."""
+        if self.craft.flying and not self.craft.touched and not self.typing:
+            self.typing = ABORT
+
+    def switch_rendezvous(self):
+        """Switches the rendezvous radar on, once in a flight."""
+        if self.switched is None and self.craft.flying and not self.craft.touched:
+            self.switched = self.ticks + 1
+
+    def switch_landing(self):
+        """Has the landing radar lost, or found again."""
+        now = self.craft.seconds
+        lost = self.craft.fails("radar")
+        others = [fault for fault in self.craft.faults if fault[0] != "radar"]
+        self.craft.faults = others if lost else [*others, ("radar", now, float("inf"))]
+
+    def begin_again(self):
+        """Goes back to the beginning, with a craft of the next seed. The session waits for us, so a thread asks it."""
+        self.seed = (self.seed + 1) % SEEDS
+        self.next_craft = self.craft_of_seed(self.seed)
+        if self.ticks == 0:
+            self.load(self.save())
+        elif self.session is not None:
+            threading.Thread(target=self.go_back, daemon=True).start()
+
+    def go_back(self):
+        """Goes back to the beginning."""
+        with suppress(Exception):  # the session has ended
+            self.session.go_there(0, True)
+
+    def radar_words(self):
+        """Returns what the rendezvous radar does, in words."""
+        since = -1 if self.switched is None else self.ticks - self.switched
+        begin = len(WATCHES) * KEY_TICKS + WAIT_TICKS
+        if since < 0:
+            return "off"
+        return "to be switched on" if since < begin else "on" if since < begin + RADAR_TICKS else "off again"
 
     def view(self):
         """Returns what the page shows."""
         craft = self.craft
-        tilt = math.degrees(craft.tilt)
-        jets = [name for jet, name in ((1, "left"), (2, "right")) if craft.jets & jet]
+        tilt = degrees(craft.tilt)
         return {
             "title": "Lander",
-            "dial": {"angle": round(tilt, 1), "wanted": 0, "jets": jets},
+            "outcome": outcome(craft),
+            "drawing": side_view.drawing(flight_of(craft), self.behind),
             "rows": [
-                ["Altitude", f"{craft.height:.1f} m"],
-                ["Speed up", f"{craft.up:+.2f} m/s"],
-                ["Speed forward", f"{craft.forward:+.2f} m/s"],
-                ["To the site", f"{craft.way:.0f} m"],
-                ["Tilt", f"{tilt:+.1f}°"],
+                ["Altitude", f"{unsigned_zero(craft.height, 1):.1f} m"],
+                ["Speed up", f"{unsigned_zero(craft.up, 2):+.2f} m/s"],
+                ["Speed forward", f"{unsigned_zero(craft.forward, 2):+.2f} m/s"],
+                ["To the site", f"{unsigned_zero(craft.way, 0):.0f} m"],
+                ["Tilt", f"{unsigned_zero(tilt, 1):+.1f}°"],
                 ["Thrust", f"{100 * craft.thrust / FULL:.0f} %" if craft.engine else "engine off"],
                 ["Fuel", f"{craft.mass - DRY:.0f} kg"],
+                ["Landing radar", "lost" if craft.fails("radar") else "on"],
+                ["Rendezvous radar", self.radar_words()],
+            ],
+            "controls": [
+                {"name": "rendezvous", "label": "Rendezvous radar: 1202"},
+                {"name": "landing", "label": "Lose the landing radar, or find it"},
+                {"name": "abort", "label": "Abort"},
+                {"name": "again", "label": "Again with another seed"},
+                {"name": "rate-up", "label": "Rate of descent: up"},
+                {"name": "rate-down", "label": "Rate of descent: down"},
+                {"name": "farther", "label": "Site farther"},
+                {"name": "nearer", "label": "Site nearer"},
             ],
         }
 
     def save(self):
         """Returns all that changes, so that the craft goes back in time with the machine."""
-        return copy.deepcopy(vars(self.craft)), self.ticks
+        return copy.deepcopy(vars(self.craft)), self.ticks, self.behind, self.switched, self.clicked, self.held, self.typing
 
     def load(self, state):
         """Restores a saved state."""
-        changing, self.ticks = copy.deepcopy(state)
-        vars(self.craft).update(changing)
+        changing, self.ticks, self.behind, self.switched, self.clicked, self.held, self.typing = state
+        if self.ticks == 0 and self.next_craft is not None:
+            changing, self.next_craft = vars(self.next_craft), None
+        vars(self.craft).update(copy.deepcopy(changing))
 
 
 def show_in_browser(words, craft):
     """Shows craft and DSKY in a browser until Control-C."""
     import agc_web
+    from agc_web.beside import guide_text, opened
+    from agc_web.command import attached
 
-    with Console(words.rope, words.script, program=words.program, detached=True) as agc:
+    instrument = Instrument(craft, words.seed, lambda seed: craft_of(words, seed))
+    start = lambda names: Console(words.rope, words.script, names=names, program=words.program, detached=True)
+    note = lambda text: print(f"craft: {text}", file=sys.stderr)
+    agc, found = opened(start, None, None, words.rope, note)
+    others = attached(words.instruments, words.listen)
+
+    def begin(session):
+        instrument.attach(session)
+        if others:
+            others(session)
+
+    with agc:
         try:
-            agc_web.serve(agc, [Instrument(craft)], port=words.port, names=os.path.join(here, "names"), save=words.save)
+            agc_web.serve(
+                agc, [instrument], port=words.port, names=found.names, watch=found.watch, save=words.save,
+                guide=guide_text(None, words.rope, note), listen=words.listen, begin=begin,
+            )
         except OSError as error:
             sys.exit(f"craft: {'port' if error.filename is None else error.filename}: {error.strerror}")
 
@@ -244,7 +536,7 @@ def line_of(now, craft, panel):
     """A line of the table."""
     shown = " ".join(panel[name] for name in ("PROG", "VERB", "NOUN", "R1", "R2", "R3"))
     return (
-        f"{now:7.1f} {craft.height:7.1f} {craft.up:7.2f} {craft.forward:8.2f} {math.degrees(craft.tilt):7.2f} "
+        f"{now:7.1f} {craft.height:7.1f} {craft.up:7.2f} {craft.forward:8.2f} {degrees(craft.tilt):7.2f} "
         f"{100 * craft.thrust / FULL:6.1f}% {craft.mass - DRY:6.0f}  {shown}"
     )
 
@@ -297,64 +589,166 @@ def key_at(text):
     return finite(second), key
 
 
+HIGH_GATE = {"height": 2300.0, "way": 7500.0, "forward": 150.0, "down": 45.0}
+BEFORE_HIGH_GATE = {"height": 3900.0, "way": 15000.0, "forward": 200.0, "down": 50.0}
+"""Where a flight starts if the command line does not say so, by P64 or by P63."""
+
+RANGES = {"height": (30, 4000), "way": (0, 15000), "forward": (-20, 180), "down": (-20, 100)}
+BRAKING_RANGES = {"height": (2500, 4000), "way": (9000, 15500), "forward": (120, 210), "down": (0, 80)}
+"""What a flight may start from, by P64 or by P63."""
+
+LOADS = {"seed": (0, SEEDS - 1), "fuel": (0, 2000), "loaded_height": (-16000, 16000), "loaded_mass": (-16000, 16000)}
+"""What else has a range."""
+
+
+def refusal(words):
+    """Returns why a flight cannot start so, or None. The page gives the range and its reasons."""
+    for name, (low, high) in {**(BRAKING_RANGES if words.braking else RANGES), **LOADS}.items():
+        value = getattr(words, name)
+        if value is not None and not low <= value <= high:
+            return f"argument --{name.replace('_', '-')}: {value:g} is outside {low} to {high}"
+    least = height_to_stop(words.down)
+    if words.height < least:
+        return f"argument --down: from {words.height:g} m nobody stops {words.down:g} m/s: this needs {least:.0f} m"
+    return None
+
+
+def height_to_stop(down):
+    """Returns the height in which the craft can stop its speed down: ten seconds to turn, then 2 m/s/s."""
+    return 20 + max(0.0, down) * (10 + max(0.0, down) / 4)
+
+
+def fault_at(text):
+    """Returns the part, the first and the last second of a fault that a word of the command line names."""
+    part, *seconds = text.split(":")
+    if part not in FAULTS or not 1 <= len(seconds) <= 2:
+        parts = ", ".join(FAULTS)
+        raise argparse.ArgumentTypeError(f"{text} names no fault: PART:SECOND[:SECONDS], as radar:60; parts are {parts}")
+    begin = finite(seconds[0])
+    return part, begin, begin + (finite(seconds[1]) if len(seconds) > 1 else 1e9)
+
+
 def asked():
-    words = argparse.ArgumentParser(description="Flies a lunar landing with the rope beside this file.")
-    words.add_argument("--height", type=finite, default=2300.0, help="metres above the site at the start (2300)")
-    words.add_argument("--way", type=finite, default=7500.0, help="metres before the site (7500)")
-    words.add_argument("--forward", type=finite, default=150.0, help="forward speed, m/s (150)")
-    words.add_argument("--down", type=finite, default=45.0, help="speed down, m/s (45)")
-    words.add_argument("--seed", type=int, default=1, help="for the radar's noise, mass, tilt and the known height (1)")
-    words.add_argument("--key", action="append", type=key_at, default=[], metavar="SECOND:KEY", help="one more key, as 60:VERB")
-    words.add_argument("--script", default=os.devnull, help="a script whose events happen as well")
-    words.add_argument("--every", type=finite, default=10.0, help="seconds from line to line of the table (10)")
-    words.add_argument("--save", metavar="FILE", help="write the script that repeats the flight")
-    words.add_argument("--png", metavar="FILE", help="draw the flight, by matplotlib")
-    words.add_argument("--web", action="store_true", help="show craft and DSKY in a browser; you press the keys")
-    words.add_argument("--port", type=int, help="the port of --web (8437, or a free one)")
-    words.add_argument("--rope", default=ROPE, help="another rope")
-    words.add_argument("--program", help="another agc-console")
-    return words.parse_args()
+    parser = argparse.ArgumentParser(description="Flies a lunar landing with the rope beside this file.")
+    add = parser.add_argument
+    add("--height", type=finite, help="metres above the site at the start, 30 to 4000 (2300)")
+    add("--way", type=finite, help="metres before the site, 0 to 15000 (7500)")
+    add("--forward", type=finite, help="forward speed, -20 to 180 m/s (150)")
+    add("--down", type=finite, help="speed down, -20 to 100 m/s (45)")
+    add("--braking", action="store_true", help="start before high gate, by P63: 15000 m, 3900 m up, 200 m/s, 50 m/s down")
+    add("--seed", type=int, default=1, help="for the radar's noise, mass, tilt and the known height (1)")
+    add("--key", action="append", type=key_at, default=[], metavar="SECOND:KEY", help="one more key, as 60:VERB")
+    add("--script", default=os.devnull, help="a script whose events happen as well")
+    add("--fuel", type=finite, default=LOADED - DRY, help="kg of fuel, 0 to 2000 (2000); the computer is not told")
+    add("--loaded-height", type=finite, metavar="HEIGHT", help="the height in the erasable load, instead of the right one")
+    add("--loaded-mass", type=finite, metavar="MASS", help="the mass in the erasable load (8500)")
+    add("--fault", action="append", type=fault_at, default=[], metavar="PART:SECOND[:SECONDS]",
+        help=f"from a second on a part does not work, or a jet burns: {', '.join(FAULTS)}")
+    add("--every", type=finite, default=10.0, help="seconds from line to line of the table (10)")
+    add("--save", metavar="FILE", help="write the script that repeats the flight")
+    add("--png", metavar="FILE", help="draw the flight, by matplotlib")
+    add("--web", action="store_true", help="show craft and DSKY in a browser; you press the keys")
+    add("--port", type=int, help="the port of --web (8437, or a free one)")
+    add("--listen", metavar="ADDRESS", default="127.0.0.1", help="the address of --web and --instruments (127.0.0.1)")
+    add("--instruments", type=int, metavar="PORT", help="with --web, serve instruments of Virtual AGC from this port on")
+    add("--rope", default=ROPE, help="another rope")
+    add("--program", help="another agc-console")
+    words = parser.parse_args()
+    for name, value in (BEFORE_HIGH_GATE if words.braking else HIGH_GATE).items():
+        if getattr(words, name) is None:
+            setattr(words, name, value)
+    wrong = refusal(words)
+    if wrong:
+        parser.error(wrong)
+    return words
+
+
+def craft_of(words, seed=None):
+    """Returns the craft that the command line describes, or that with another seed."""
+    seed = words.seed if seed is None else seed
+    craft = Craft(words.height, words.way, words.forward, words.down, seed, words.fuel)
+    craft.faults = words.fault
+    if words.loaded_height is not None:
+        craft.known_height = words.loaded_height
+    if words.loaded_mass is not None:
+        craft.known_mass = words.loaded_mass
+    return craft
+
+
+def ending(agc, craft):
+    """Returns how the flight ended."""
+    if craft.touched:
+        return f"on the ground: {touchdown(craft)}"
+    if climbs_away(agc, craft):
+        return f"aborted: {craft.up:+.2f} m/s up at {craft.height:.0f} m"
+    return "not on the ground"
+
+
+def alarm_of(agc):
+    """Returns the last alarm's code as the end of a line; nothing without one."""
+    code = agc.cell("FAILREG+2")
+    return f", alarm {code:05o}" if code else ""
+
+
+def table_of(agc, craft, words, keys):
+    """Flies, prints the table, and returns the rows of the picture."""
+    now, rows = 0.0, []
+    every = max(1, nearest(words.every / STEP))
+    print(HEAD)
+    try:
+        for now, _ in fly(agc, craft, keys):
+            step = nearest(now / STEP)
+            if step % every == 0:
+                print(line_of(now, craft, agc.panel()))
+            if step % 50 == 0:
+                rows.append((now, craft.height, craft.up, craft.forward, degrees(craft.tilt), 100 * craft.thrust / FULL))
+    except Refused as refused:
+        print(f"craft: the flight ends at {now:.2f} s: {refused}", file=sys.stderr)
+    print(line_of(now, craft, agc.panel()))
+    return rows
 
 
 def main():
     words = asked()
-    keys = dict(APPROACH)
+    keys = dict(BRAKING if words.braking else APPROACH)
     keys.update(words.key)
-    craft = Craft(words.height, words.way, words.forward, words.down, words.seed)
+    craft = craft_of(words)
     if words.web:
         show_in_browser(words, craft)
         return
     if words.save is not None:
         write(words.save, "a", "")  # a flight that cannot be saved is not made
-    now, rows = 0.0, []
-    every = max(1, round(words.every / STEP))
-    with Console(words.rope, words.script, program=words.program) as agc:
-        print(HEAD)
+    names = os.path.join(here, "names") if words.rope == ROPE else None
+    with Console(words.rope, words.script, names=names, program=words.program) as agc:
         try:
-            for now, _ in fly(agc, craft, keys):
-                if round(now / STEP) % every == 0:
-                    print(line_of(now, craft, agc.panel()))
-                if round(now / STEP) % 50 == 0:
-                    tilt, thrust = math.degrees(craft.tilt), 100 * craft.thrust / FULL
-                    rows.append((now, craft.height, craft.up, craft.forward, tilt, thrust))
-        except Refused as refused:
-            print(f"craft: the flight ends at {now:.2f} s: {refused}", file=sys.stderr)
-        print(line_of(now, craft, agc.panel()))
+            rows = table_of(agc, craft, words, keys)
+        except Error:
+            if words.save is not None:
+                write(words.save, "w", agc.script())  # as far as the flight came
+            raise
         script = agc.script()
-        if craft.touched:
-            up, forward, tilt, way = craft.touched
-            print(f"on the ground: {up:+.2f} m/s up, {forward:+.2f} m/s forward, tilt {tilt:+.2f}, {way:+.1f} m to go")
-        else:
-            print("not on the ground")
-        print(f"{len(script.splitlines())} events by cycle {agc.cycle}, program {agc.panel()['PROG']}")
+        print(ending(agc, craft))
+        alarm = alarm_of(agc) if names else ""
+        print(f"{len(script.splitlines())} events by cycle {agc.cycle}, program {agc.panel()['PROG']}{alarm}")
         if words.save is not None:
             write(words.save, "w", script)
     if words.png:
         draw(rows, words.png)
 
 
-if __name__ == "__main__":
+def main_or_sentence():
+    """Runs main. What goes wrong ends the program in a sentence; a reader of the table who has seen enough ends it quietly."""
     try:
         main()
-    except Ended as ended:
-        sys.exit(f"craft: {ended}")
+        sys.stdout.flush()
+    except Error as error:
+        sys.exit(f"craft: {error}")
+    except KeyboardInterrupt:
+        sys.exit(130)
+    except OSError as error:
+        os.dup2(os.open(os.devnull, os.O_WRONLY), 1)  # what is left to be printed has nowhere to go
+        sys.exit(141 if isinstance(error, BrokenPipeError) else f"craft: cannot print: {error.strerror}")
+
+
+if __name__ == "__main__":
+    main_or_sentence()

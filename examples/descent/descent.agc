@@ -5,16 +5,19 @@
 # turn, steps of time 1/256 s. A second word counts 16384ths of the first one's unit.
 
 # ---- channels
+LCHAN   EQUALS  1           # L as a channel
 SUPERBNK EQUALS 7           # bit 7: the superbank
 JETS    EQUALS  5           # bit 1 tilts forward, bit 2 back
 RELAYS  EQUALS  10          # the display's relay words
 LAMPS   EQUALS  11          # bit 2 COMP ACTY, 5 KEY REL, 6 flash, 7 OPR ERR, and 13: the engine is on
+CHAN13  EQUALS  13          # bits 1 to 3: what the radar is to measure; bit 4: it is to
 KEYIN   EQUALS  15          # the code of the key
+CHAN16  EQUALS  16          # the switch for the rate of descent: bit 6 is 1 if it is pushed up, bit 7 if down
 CONTACT EQUALS  30          # bit 8 is 0 once a leg touches the ground
+CHAN31  EQUALS  31          # the hand controller: bit 1 is 0 if it is pushed forward, bit 2 if back
 CHAN32  EQUALS  32          # bit 14 is 0 while PRO is down
 DNWORD1 EQUALS  34          # the downlink's two words
 DNWORD2 EQUALS  35
-RADAR   EQUALS  41          # the landing radar's altitude, 1/4 m; 0 while it has none
 THROTTLE EQUALS 42          # the thrust that is commanded, 4 N
 
 # ---- erasable memory. Banks 0, 1 and 2 are always at hand, bank 3 is in EB from the start on.
@@ -24,7 +27,8 @@ NEWLOC  ERASE   +1          # where a new job or task begins, and its banks
 NEWVAC  ERASE               # the job's VAC area or +0,
 NEWPRIO ERASE               # and its priority, with the VAC area's address in it
 LOCCTR  ERASE               # the offset of the core set in hand
-NEXTSET ERASE               # the offset of the one that should run
+SETPTR  ERASE               # the offset of another one
+NEWJOB  ERASE               # cell 67: the offset of the core set that is to run next; +0: the job in hand goes on
 BESTPRI ERASE               # the highest priority found so far
 WAITDT  ERASE               # the task: in how many hundredths of a second
 WAITREM ERASE               # what is left of that at the task in hand
@@ -51,21 +55,20 @@ VAC2USE ERASE   +23
 VAC3USE ERASE   +23
 VAC4USE ERASE   +23
 VAC5USE ERASE   +23
-NEWJOB  ERASE               # 1: a job has come. A restart clears this, and what follows:
-T3MORE  ERASE               # 1 while the next task is due as well
+T3MORE  ERASE               # 1 while the next task is due as well. A restart clears this, and what follows:
 INMODE  ERASE               # 1: a verb is keyed, 2: a noun, -3: a number
-REQV37  ERASE               # 1 while verb 37 waits for its program
 MONNOUN ERASE               # the noun that verb 16 keeps up to date, or +0
 DSPLOCK ERASE               # 1 while the crew has the display
-LAMPFLG ERASE               # 1 during a lamp test
 PROWAIT ERASE               # the address at which the job that waits for PRO wakes, or +0
-NPHASE4 ERASE               # P00 clears this too. Phases, each behind its complement: P64 before PRO,
+NPHASE3 ERASE               # P00 clears this too. Phases, each behind its complement: touchdown,
+PHASE3  ERASE
+NPHASE4 ERASE               # P64 before PRO,
 PHASE4  ERASE
 NPHASE5 ERASE               # and guidance
 PHASE5  ERASE
 AVEGFLG ERASE               # 1 while SERVICER runs each second
 DAPON   ERASE               # 1 while the autopilot is on
-MODREG  ERASE               # the program: 0, 64, 66 or 68
+MODREG  ERASE               # the program: 0, 63 to 66, 68, 69 or 70
 PDNOUN  ERASE               # the noun that it shows, or +0
 DIGITS  ERASE   +27         # a fresh start clears this too. The display's digit codes, from R3's last up to PROG's first,
 SIGNS   ERASE   +13         # and what else its rows have: bit 11 a sign, or lamps
@@ -74,6 +77,13 @@ NOUNREG ERASE               # the noun,
 INVAL   ERASE               # and the number that is keyed
 FAILREG ERASE   +2          # alarm codes: the first, the second, and the last, which stays
 RSTI    ERASE
+FLAGWRD1 ERASE              # the flags: V37BIT, LAMPBIT, FUELBIT, SITEBIT. A restart clears the first two
+BUFAL   ERASE   +1          # BANKCALL: A and L on the way there,
+BUFCADR ERASE               # the routine,
+BUFQ    ERASE               # where to go back to,
+BUFBANK ERASE               # and its bank
+PHWORD  ERASE
+PHINDEX ERASE
         SETLOC  1000
 INSIGN  ERASE               # the keyboard: +1 or -1; 0: no sign was keyed
 INOVER  ERASE               # not +0: the number is too great
@@ -94,8 +104,8 @@ SHOWQ   ERASE
 CLKH    ERASE               # the clock for noun 36: hours, minutes, hundredths of a second
 CLKM    ERASE
 CLKS    ERASE
-RODCMD  ERASE               # the rate of descent that the crew loads, 0.1 m/s, up is plus; or +0
-        SETLOC  E3,1400
+RODCMD  ERASE               # the rate that the crew commands in P66, 0.1 m/s, up is plus
+        SETLOC  1400        # E3
 XN      ERASE   +1          # state: place forward of the site,
 VX      ERASE   +1          # forward speed,
 ZN      ERASE   +1          # altitude,
@@ -120,12 +130,39 @@ GZ      ERASE               # that and gravity
 TGO     ERASE               # time to go
 TEMA    ERASE
 TEMB    ERASE
+TEMC    ERASE
+RODMOST ERASE               # the rate down that P66 wants at most
+TOUCHT  ERASE               # hundredths of a second since the autopilot's last look
+ALARMQ  ERASE
+PROGQ   ERASE
+PROGNO  ERASE
+RANGE   ERASE               # the slant range to the site, as noun 68 has it
+LPDANG  ERASE               # the angle of the landing point, as noun 64 has it
+LSCORR  ERASE               # how far forward the crew moves the site, m
 THETAD  ERASE               # the tilt that is wanted, forward is plus
-DAPLAST ERASE               # the tilt as the autopilot saw it last
-PRN     ERASE               # steps of the prediction that are left
+DAPLAST ERASE               # the tilt as the autopilot saw it last,
+DAPTURN ERASE               # what the craft turns in 1.2 seconds,
+DAPERR  ERASE               # and how far it is from THETAD
 DHM     ERASE               # for the display: the radar's altitude less ours,
-PMASS   ERASE               # and the mass at low gate, as predicted
+PMASS   ERASE               # the mass at low gate, as predicted,
+TMASS   ERASE               # and on the ground
 FCMD    ERASE               # the thrust that is commanded
+SUMX    ERASE               # pulses forward since the engine is on, as READACCS took them,
+SUMZ    ERASE               # and up
+LASTX   ERASE               # the same as the autopilot saw them last,
+LASTZ   ERASE
+LASTT   ERASE               # and TIME1 then
+NOTHRUST ERASE              # seconds without thrust,
+NORADAR ERASE               # and without a radar altitude
+RADWORD ERASE   +2          # the radar's words: altitude, 1/4 m; speed along the craft's forward axis, 1/64 m/s; along its
+RADGOT  ERASE               # upward axis. How many of these are there,
+USEDRAD ERASE               # and how many SERVICER takes
+RADLAMPS ERASE              # bit 3: VEL lights, bit 5: ALT
+TILT    ERASE               # the tilt as the radar's speeds are taken
+UFWD    ERASE               # half of the forward part of one metre along an axis,
+UUP     ERASE               # and half of the upward part
+RODCOUNT ERASE              # clicks of the switch for the rate of descent, up is plus,
+REDCOUNT ERASE              # and of the hand controller, forward is plus
 
 # ---- bank 02: vectors, Executive, Waitlist, interrupts
         SETLOC  4000
@@ -150,31 +187,114 @@ FCMD    ERASE               # the thrust that is commanded
         EXTEND
         QXCH    QRUPT
         TCF     KEYRUPT1
-        RESUME              # KEYRUPT2
+        DXCH    ARUPT
+        EXTEND
+        QXCH    QRUPT
+        TCF     KEYRUPT2
         SETLOC  4034
         RESUME              # UPRUPT
         SETLOC  4040
         TCF     DOWNRUPT
         SETLOC  4044
-        RESUME              # RADARUPT
-        SETLOC  4050
-        RESUME              # RUPT10
+        DXCH    ARUPT
+        EXTEND
+        QXCH    QRUPT
+        TCF     RADARUPT
+        DXCH    ARUPT
+        EXTEND
+        QXCH    QRUPT
+        TCF     RUPT10
         SETLOC  4060
 GOSTART INHINT              # power comes on, or verb 36
-        TC      BANKJUMP
-        2CADR   FRESH
+        TC      POSTJUMP
+        CADR    FRESH
 GOTOP00 INHINT
-        TC      BANKJUMP
-        2CADR   GOP00
+        TC      POSTJUMP
+        CADR    GOP00
 RESTART INHINT
-        TC      BANKJUMP
-        2CADR   GORESTRT
-BANKJUMP EXTEND             # goes to the address and banks behind the call
-        INDEX   Q
-        DCA     0
-        DXCH    Z
+        TC      POSTJUMP
+        CADR    GORESTRT
 
-# The Executive. A job has a core set; the one that runs has set 0. A job looks at NEWJOB now and then, by
+# BANKCALL: calls the routine in another bank whose CADR is the word after the call; A and L go there and come back.
+# SWCALL: the one whose CADR is in A; only A comes back. POSTJUMP: goes there, and does not come back. For jobs alone;
+# the routine must not give way, nor call so.
+BANKCALL DXCH   BUFAL
+        INDEX   Q
+        CA      0
+        INCR    Q
+SWCALL  TS      BUFCADR
+        EXTEND
+        QXCH    BUFQ
+        CA      BUFCADR     # FBANK takes the bank's bits of a CADR alone
+        XCH     FBANK
+        TS      BUFBANK
+        CA      BUFCADR
+        MASK    LOW10
+        AD      WINDOW
+        TS      BUFCADR
+        DXCH    BUFAL
+        INDEX   BUFCADR
+        TC      0
+        XCH     BUFBANK
+        XCH     FBANK
+        XCH     BUFBANK
+        INDEX   BUFQ
+        TC      0
+POSTJUMP INDEX  Q
+        CA      0
+        TS      BUFCADR
+        XCH     FBANK
+        CA      BUFCADR
+        MASK    LOW10
+        AD      WINDOW
+        INDEX   A
+        TC      0
+
+# UPFLAG: the flag whose bit has its address after the call goes up; DOWNFLAG: it goes down. For jobs.
+UPFLAG  INDEX   Q
+        CA      0
+        INDEX   A
+        CA      0
+        INHINT
+        XCH     L
+        CA      FLAGWRD1
+        EXTEND
+        ROR     LCHAN
+FLAGSET TS      FLAGWRD1
+        RELINT
+        INDEX   Q
+        TC      1
+DOWNFLAG INDEX  Q
+        CA      0
+        INDEX   A
+        CS      0
+        INHINT
+        MASK    FLAGWRD1
+        TCF     FLAGSET
+
+# PHASCHNG: the word after the call is phase and group, as OCT 13 for phase 1 of group 3; phase 0: the group is done. A
+# restart goes on where the phase table says. Each phase stands behind its complement. For jobs.
+PHASCHNG INHINT
+        INDEX   Q
+        CA      0
+        TS      PHWORD
+        MASK    SEVEN
+        AD      LESS3
+        DOUBLE
+        TS      PHINDEX
+        CA      PHWORD
+        EXTEND
+        MP      BIT12
+        TS      L
+        COM
+        INDEX   PHINDEX
+        DXCH    NPHASE3
+        RELINT
+        INDEX   Q
+        TC      1
+
+# The Executive. A job has a core set; the one that runs has set 0. NEWJOB has the offset of a better job's, and +0 if
+# there is none. A job looks at it now and then, by
 #       CCS     NEWJOB
 #       TC      CHANG1
 # and loses A and L there, while MPAC stays its own. From a job NOVAC, FINDVAC, JOBWAKE and WAITLIST want INHINT before.
@@ -222,7 +342,24 @@ NOVAC2  TS      LOCCTR
         DXCH    NEWLOC
         INDEX   LOCCTR
         DXCH    LOC
-JOBCAME CA      ONE
+JOBCAME CCS     NEWJOB      # is it better than the job that runs, or is to run next?
+        TCF     +2
+        TCF     +2
+        AD      ONE
+        INDEX   A
+        CA      PRIORITY
+        EXTEND
+        BZMF    BETTER      # nobody runs
+        MASK    PRIOMASK
+        TS      BESTPRI
+        INDEX   LOCCTR
+        CA      PRIORITY
+        MASK    PRIOMASK
+        EXTEND
+        SU      BESTPRI
+        EXTEND
+        BZMF    EXECOUT
+BETTER  CA      LOCCTR
         TS      NEWJOB
 EXECOUT INDEX   RUPTQ
         TC      2
@@ -233,24 +370,29 @@ NEXTCORE CA     TWELVE
         BZMF    NOVAC2 +1
         TC      BAILOUT
         OCT     1202
-# CHANG1: the job gives way, if one of those that came is better.
+# CHANG1: the job gives way to the one in NEWJOB.
 CHANG1  INHINT
         CA      Q
         TS      LOC
-        TCF     YIELD
-CHANG2  CA      NEXTSET     # exchanges set 0 with the one at this offset, two words at a time
+        CA      BBANK
+        EXTEND
+        ROR     SUPERBNK
+        TS      BANKSET
+CHANG2  CA      ZERO
+        XCH     NEWJOB
+        TS      SETPTR      # exchanges set 0 with this one, two words at a time
         EXTEND
         BZF     DISPATCH
         CA      ZERO
 CHANG3  TS      LOCCTR
         INDEX   LOCCTR
         DXCH    MPAC
-        INDEX   NEXTSET
+        INDEX   SETPTR
         DXCH    MPAC
         INDEX   LOCCTR
         DXCH    MPAC
         CA      TWO
-        ADS     NEXTSET
+        ADS     SETPTR
         CA      TWO
         ADS     LOCCTR
         AD      LESS10
@@ -292,7 +434,7 @@ EJLOOP  TS      LOCCTR
         BZMF    EJNEXT
         ADS     BESTPRI
         CA      LOCCTR
-        TS      NEXTSET
+        TS      NEWJOB
 EJNEXT  CA      TWELVE
         ADS     LOCCTR
         AD      LESS84
@@ -311,7 +453,7 @@ IDLEND  INHINT
         CA      TWO
         EXTEND
         WOR     LAMPS
-        TCF     EJSCAN
+        TCF     CHANG2
 
 # PRIOCHNG: the job goes on with the priority in A, once it is the best again. JOBSLEEP: the job sleeps until JOBWAKE is
 # called with the address in A, and goes on there.
@@ -401,6 +543,10 @@ WAIT3   TS      WAITI
         TCF     INSERT
 WAIT4   TS      WAITREM
         INCR    WAITI
+        CS      EIGHT
+        AD      WAITI
+        EXTEND
+        BZF     WAITFULL    # it comes after nine others
         TCF     WAIT3 +1
 INSERT  TS      WAITJ       # RUPTTEM into LST1 there, the task into LST2, and all behind them one place on
 INSERT1 CA      WAITJ
@@ -413,14 +559,20 @@ INSERT1 CA      WAITJ
         CS      EIGHT
         AD      WAITJ
         EXTEND
-        BZF     WAITOUT
+        BZF     WAITOUT     # the tenth comes out: it must be no task
         CA      RUPTTEM
         INDEX   WAITJ
         XCH     LST1
         TS      RUPTTEM
         INCR    WAITJ
         TCF     INSERT1
-WAITOUT INDEX   RUPTQ
+WAITOUT CS      NEWLOC
+        AD      DUMMY
+        EXTEND
+        BZF     +3
+WAITFULL TC     BAILOUT
+        OCT     1203
+        INDEX   RUPTQ
         TC      0
 # FIXDELAY: the task goes on after the call in so many hundredths as the word after it says; VARDELAY: as A says.
 FIXDELAY INDEX  Q
@@ -477,14 +629,35 @@ RUPTEND EXTEND
         RESUME
 DUMMY   2CADR   TASKOVER    # a place in the Waitlist without a task
 
-# Two tasks. MONTASK, four times a second: the display. READACCS, each second: collects what the accelerometers have
-# counted, and starts SERVICER.
-MONTASK CA      PRIO17
+# Three tasks. MONTASK, twice a second: the display, and for verb 16 what noun 68 shows. READACCS, each second: collects
+# what the accelerometers have counted, and starts SERVICER. LRTASK, 40 ms before it: begins to read the radar, which has
+# three words by then. GUIDTASK starts both.
+MONTASK CA      PRIO30
         TC      NOVAC
         2CADR   DISPJOB
-        TC      FIXDELAY
-        DEC     25
+        CS      SIXTY8
+        AD      MONNOUN
+        EXTEND
+        BZF     +2
+        TCF     MONTASK1
+        CA      PRIO10
+        TC      NOVAC
+        2CADR   RANGEJOB
+MONTASK1 TC     FIXDELAY
+        DEC     50
         TCF     MONTASK
+GUIDTASK CA     FOUR
+        TC      WAITLIST
+        2CADR   READACCS
+LRTASK  CCS     AVEGFLG
+        TCF     +2
+        TC      TASKOVER
+        CA      ZERO
+        TS      RADGOT
+        CA      RADASK
+        EXTEND
+        WRITE   CHAN13
+        TC      TASKOVER
 READACCS CCS    AVEGFLG
         TCF     +2
         TC      TASKOVER
@@ -497,13 +670,22 @@ READACCS CCS    AVEGFLG
         ADS     DELT
         CA      ZERO
         XCH     PIPAZ
+        TS      RUPTTEM
         ADS     DELVX
+        CA      RUPTTEM
+        ADS     SUMX
         CA      ZERO
         XCH     PIPAX
+        TS      RUPTTEM
         ADS     DELVZ
+        CA      RUPTTEM
+        ADS     SUMZ
         CA      PRIO20
         TC      FINDVAC
         2CADR   SERVICER
+        CA      NINETY6
+        TC      WAITLIST
+        2CADR   LRTASK
         TC      FIXDELAY
         DEC     100
         TCF     READACCS
@@ -526,7 +708,10 @@ T4ROW   CCS     DSROW
         TCF     +2
         CA      ELEVEN
         TS      DSROW
-        CCS     LAMPFLG
+        CA      LAMPBIT
+        MASK    FLAGWRD1
+        EXTEND
+        BZF     +2
         TCF     T4TEST
         CA      DSROW       # the left digit by 32, the right one, and a sign
         DOUBLE
@@ -563,8 +748,9 @@ RELTAB  2OCT    0400010000  # the rows' numbers
         2OCT    4400050000
         2OCT    5400060000
 
-# T5RUPT, each 100 ms: the autopilot, and the look for the ground. The error and what the craft turns in 0.6 seconds
-# decide: above +36, 0.4 degrees, it burns the jet for back, below -36 the one for forward.
+# T5RUPT, each 100 ms: the autopilot, and the look for the ground. The error, 12 degrees at most, and what the craft
+# turns in 1.2 seconds decide: above +36, 0.4 degrees, it burns the jet for back, below -36 the one for forward. So a
+# great error is taken away by 10 degrees a second, which one jet stops in 12.5.
 T5RUPT  CA      T5DT
         TS      TIME5
         CCS     DAPON
@@ -575,6 +761,14 @@ DAP     CA      BIT8
         RAND    CONTACT
         EXTEND
         BZF     TOUCH
+        CA      SUMX        # what the ground would stop
+        AD      PIPAZ
+        TS      LASTX
+        CA      SUMZ
+        AD      PIPAX
+        TS      LASTZ
+        CA      TIME1
+        TS      LASTT
         CA      CDUY
         EXTEND
         MSU     ZERO
@@ -582,11 +776,25 @@ DAP     CA      BIT8
         COM
         AD      DAPLAST
         EXTEND
-        MP      SIX
-        CA      L
+        MP      TWELVE
+        LXCH    DAPTURN
+        CS      THETAD
         AD      DAPLAST
+        TS      DAPERR
+        AD      LESS12DG
         EXTEND
-        SU      THETAD
+        BZMF    +4
+        CS      LESS12DG
+        TS      DAPERR
+        TCF     DAPLINE
+        CS      DAPERR
+        AD      LESS12DG
+        EXTEND
+        BZMF    DAPLINE
+        CA      LESS12DG
+        TS      DAPERR
+DAPLINE CA      DAPERR
+        AD      DAPTURN
         AD      LESS36
         EXTEND
         BZMF    +3
@@ -601,10 +809,13 @@ DAP     CA      BIT8
 DAPFIRE EXTEND
         WRITE   JETS
         TCF     RUPTEND
-TOUCH   TC      ENGOFF      # a leg touches the ground: P68
-        CA      PRIO30
-        TC      NOVAC
-        2CADR   P68JOB
+TOUCH   TC      ENGOFF      # a leg touches the ground: P68, by a phase, since what follows may end in an alarm
+        EXTEND
+        DCA     PHASE1
+        DXCH    NPHASE3     # PHASCHNG is for jobs
+        CA      NINETY
+        TC      WAITLIST
+        2CADR   P68TASK
         TCF     RUPTEND
 # ENGOFF: engine, throttle and jets go off, and with them autopilot and guidance. It wants INHINT before.
 ENGOFF  CS      BIT13
@@ -628,6 +839,54 @@ KEYRUPT1 CA     PRIO30
         RAND    KEYIN
         INDEX   LOCCTR
         TS      MPAC        # the job has the key's code in its MPAC
+        TCF     RUPTEND
+
+# RADARUPT: the radar has measured what channel 13 names. The word is in RNRAD, and the next one is wanted.
+RADARUPT CA     BIT4
+        EXTEND
+        RAND    CHAN13
+        EXTEND
+        BZF     RUPTEND     # nobody wants it any more
+        CA      RNRAD
+        INDEX   RADGOT
+        TS      RADWORD
+        INCR    RADGOT
+        INDEX   RADGOT
+        CA      RADASK
+        EXTEND
+        WRITE   CHAN13
+        TCF     RUPTEND
+RADASK  OCT     17          # the altitude,
+        OCT     16          # the speed along the forward axis,
+        OCT     14          # that along the upward axis,
+        OCT     0           # and no more
+
+# KEYRUPT2: a click of the switch for the rate of descent. RUPT10: one of the hand controller.
+KEYRUPT2 CA     BIT6
+        EXTEND
+        RAND    CHAN16
+        EXTEND
+        BZF     +3
+        CA      ONE
+        TCF     +2
+        CS      ONE
+        ADS     RODCOUNT
+        TCF     RUPTEND
+RUPT10  CA      ONE
+        EXTEND
+        RAND    CHAN31
+        EXTEND
+        BZF     FORWARDS
+        CA      TWO
+        EXTEND
+        RAND    CHAN31
+        EXTEND
+        BZF     +2
+        TCF     RUPTEND     # it is back in its middle
+        CS      ONE
+        TCF     +2
+FORWARDS CA     ONE
+        ADS     REDCOUNT
         TCF     RUPTEND
 
 # DOWNRUPT: two words of the downlist: its name, the state, the time.
@@ -667,6 +926,20 @@ BAILOUT INHINT
         TS      BRUPT
         RESUME
 GOORDER TCF     RESTART
+# POODOO: the same, but the program is P00 then: what was begun cannot go on.
+POODOO  INHINT
+        INDEX   Q
+        CA      0
+        TC      SETALARM
+        TCF     GOTOP00
+# ALARM: the same without a restart: the code in the word after the call lights PROG, and the caller goes on.
+ALARM   EXTEND
+        QXCH    ALARMQ
+        INDEX   ALARMQ
+        CA      0
+        TC      SETALARM
+        INDEX   ALARMQ
+        TC      1
 # SETALARM: the code in A goes into FAILREG, and PROG lights.
 SETALARM TS     FAILREG +2
         CCS     FAILREG
@@ -678,7 +951,9 @@ SETALARM TS     FAILREG +2
         TCF     +3
         CA      FAILREG +2
         TS      FAILREG +1
-        CA      BIT9
+        CS      BIT9        # ALT and VEL stay as they are
+        MASK    SIGNS +13
+        AD      BIT9
         TS      SIGNS +13
         TC      Q
 
@@ -687,6 +962,7 @@ SETALARM TS     FAILREG +2
 POSMAX  OCT     37777
 ONE     DEC     1
 TWO     DEC     2
+THREE   DEC     3
 FOUR    DEC     4
 FIVE    DEC     5
 SIX     DEC     6
@@ -703,44 +979,56 @@ TWENTY1 DEC     21
 SIXTY   DEC     60
 SIXTY1  DEC     61
 SIXTY4  DEC     64
+SIXTY5  DEC     65
 SIXTY6  DEC     66
 SIXTY8  DEC     68
+SIXTY9  DEC     69
+SEVENTY DEC     70
 SEVENTY2 DEC    72
+NINETY  DEC     90
+NINETY6 DEC     96
+LESS1   DEC     -1
 LESS2   DEC     -2
 LESS3   DEC     -3
+LESS4   DEC     -4
 LESS10  DEC     -10
 LESS36  DEC     -36
+LESS12DG DEC    -1092       # 12 degrees of CDUY
 LESS64  DEC     -64
 LESS84  DEC     -84         # the last core set
+BIT3    OCT     4
+BIT4    OCT     10
 BIT5    OCT     20
 BIT6    OCT     40
 BIT7    OCT     100
 BIT8    OCT     200
 BIT9    OCT     400
+BIT10   OCT     1000
 BIT11   OCT     2000
+BIT12   OCT     4000
 BIT13   OCT     10000
 HALF    OCT     20000
 LOW5    OCT     37
+LOW10   OCT     1777
+WINDOW  EQUALS  BIT11       # where a switched bank begins
+V37BIT  OCT     1           # verb 37 waits for its program
+LAMPBIT OCT     2           # a lamp test
+RESTBITS OCT    3
+FUELBIT OCT     4           # the alarm of low fuel came
+SITEBIT OCT     10          # and that of a site out of reach
 ALLLAMPS OCT    175         # KEY REL, OPR ERR, the flash, and those of a lamp test
 VACMASK OCT     00777
 PRIOMASK OCT    37000
-PRIO17  OCT     17000
+PRIO10  OCT     10000
+PRIO14  OCT     14000
 PRIO20  OCT     20000
 PRIO30  OCT     30000
 DT80S   DEC     8000
 T4DT    DEC     16382       # two steps to the carry
 T5DT    DEC     16374       # ten
 GRAVITY DEC     1659        # 1.62 m/s/s
-PHASEON 2OCT    7777600001  # a phase: at work
-# BEGINP66: the program is P66.
-BEGINP66 CA     SIXTY6
-        TS      MODREG
-        CA      SIXTY
-        TS      PDNOUN
-        CA      ZERO
-        TS      RODCMD
-        TC      Q
-
+TENBY64 DEC     .15625
+PHASE1  2OCT    7777600001
 # DIVS: A = MPAC by DIVISOR, which is above one; where the quotient has no place in a word, the greatest of its sign.
 DIVS    CCS     MPAC
         TCF     +3
@@ -783,6 +1071,32 @@ LIMIT   TS      TEMB
         CS      0
 LIMITED INDEX   Q
         TC      1
+
+# ATMOST: A, or the word after the call if that is less. ATLEAST: A, or that word if it is more. ABS: A's magnitude.
+ATMOST  TS      TEMB
+        INDEX   Q
+        CS      0
+        AD      TEMB
+        EXTEND
+        BZMF    BOUNDED
+BOUND   INDEX   Q
+        CA      0
+        INDEX   Q
+        TC      1
+ATLEAST TS      TEMB
+        INDEX   Q
+        CS      0
+        AD      TEMB
+        EXTEND
+        BZMF    BOUND
+BOUNDED CA      TEMB
+        INDEX   Q
+        TC      1
+ABS     EXTEND
+        BZMF    +2
+        TC      Q
+        COM
+        TC      Q
 
 # LAW: the quadratic law of the Apollo landings for a target without acceleration, on axis A: AX or AZ, and A, is
 # 6/T (2 way/T - (target speed + speed)). The state is that in the VAC area, T is LAWT.
@@ -848,23 +1162,103 @@ STEP    EXTEND
         INDEX   BLK
         DAS     3
         TC      Q
-# THRUST: A = the thrust for the accelerations AX and AZ, by the mass in the VAC area, 4.5 to 42.3 kN. Their magnitude is
-# a square root, by thirteen steps of Newton's rule.
+# THRUST: A = the thrust for the accelerations AX and AZ, by the mass in the VAC area, 4.5 to 42.3 kN. Upward -1.12 to
+# 3 m/s/s are possible; GZ is that and gravity. Forward AX gets what is left: GZ at most, for a tilt of 45 degrees, and
+# 6 m/s/s less GZ, for the engine's sake. The magnitude is a square root.
 THRUST  EXTEND
         QXCH    LAWQ
         CA      AZ
+        AD      LESSMIDA
         TC      LIMIT
-        DEC     1147        # 1.12 m/s/s
+        DEC     2109
+        AD      MIDDLEA
         AD      GRAVITY
         TS      GZ
+        TS      TEMA
         EXTEND
         SQUARE
         DXCH    MPAC
+        CS      GZ
+        DOUBLE
+        AD      AMOST
+        EXTEND
+        BZMF    +2
+        TCF     +3
+        AD      GZ          # the second bound is the lower one
+        TS      TEMA
         CA      AX
+        EXTEND
+        BZMF    THRUST2
+        EXTEND
+        SU      TEMA
+        EXTEND
+        BZMF    THRUST3
+        CA      TEMA
+        TS      AX
+        TCF     THRUST3
+THRUST2 AD      TEMA
+        EXTEND
+        BZMF    +2
+        TCF     THRUST3
+        CS      TEMA
+        TS      AX
+THRUST3 CA      AX
         EXTEND
         SQUARE
         DAS     MPAC
-        CA      POSMAX
+        TC      SQRT
+        EXTEND
+        INDEX   PUSHLOC
+        MP      11          # in 16 N
+        AD      LESSMID
+        TC      LIMIT
+        DEC     1181
+        AD      MIDDLE
+        DOUBLE
+        DOUBLE
+        TC      LAWQ
+LESSMIDA DEC    -962        # the middle of the bounds upward
+MIDDLEA DEC     962
+AMOST   DEC     6144        # 6 m/s/s
+LESSMID DEC     -1462
+MIDDLE  DEC     1462
+# ARCTAN: A = the angle in CDU pulses whose tangent is A, by a polynomial. The tangent is at most 1.
+ARCTAN  TS      TEMA
+        EXTEND
+        SQUARE
+        TS      TEMB
+        EXTEND
+        MP      ATANC5
+        AD      ATANC3
+        EXTEND
+        MP      TEMB
+        AD      ATANC1
+        EXTEND
+        MP      TEMA
+        TC      Q
+ATANC1  DEC     5191
+ATANC3  DEC     -1506
+ATANC5  DEC     414
+# SINE: A = half of the sine of angle A, in CDU pulses, at most 8191 (90 degrees), by a polynomial.
+SINE    DOUBLE
+        TS      TEMA
+        EXTEND
+        SQUARE
+        TS      TEMB
+        EXTEND
+        MP      SINE5
+        AD      SINE3
+        EXTEND
+        MP      TEMB
+        AD      SINE1
+        EXTEND
+        MP      TEMA
+        TC      Q
+SINE1   DEC     .785313
+SINE3   DEC     -.321615
+SINE5   DEC     .036355
+# SQRT: A = the root of MPAC, by thirteen steps of Newton's rule.
+SQRT    CA      POSMAX
         TS      TEMA
         CA      TWELVE
 NEWTON  TS      TEMB
@@ -880,18 +1274,7 @@ NEWTON  TS      TEMB
         CCS     TEMB
         TCF     NEWTON
         CA      TEMA
-        EXTEND
-        INDEX   PUSHLOC
-        MP      11          # in 16 N
-        AD      LESSMID
-        TC      LIMIT
-        DEC     1181
-        AD      MIDDLE
-        DOUBLE
-        DOUBLE
-        TC      LAWQ
-LESSMID DEC     -1462
-MIDDLE  DEC     1462
+        TC      Q
 # BURN: the mass in the VAC area less what thrust A burns in STEPDT: 0.0013115 kg in a second for each unit.
 BURN    EXTEND
         MP      STEPDT
@@ -905,7 +1288,7 @@ BURN    EXTEND
 BURNT   DEC     .083935
 
 # ---- bank 04: keyboard, display and nouns
-        SETLOC  04,2000
+        BANK    04
 # CHARIN: the job of a key, whose code is in MPAC.
 CHARIN  CS      SIXTEEN
         AD      MPAC
@@ -932,8 +1315,8 @@ VERB    CA      ONE
         TCF     +2
 NOUN    CA      TWO
         TS      INMODE
-        CA      ZERO
-        TS      REQV37
+        TC      DOWNFLAG
+        ADRES   V37BIT
 BEGINVN CA      ONE         # a verb or a noun is to be keyed
         TS      DSPLOCK
         TS      INSIGN
@@ -1071,8 +1454,9 @@ RSET    CA      ZERO        # both alarm codes go, the last one stays
 KEYREL  CA      MONNOUN
         EXTEND
         BZF     RELEASE
+        TC      DOWNFLAG
+        ADRES   V37BIT
         CA      ZERO
-        TS      REQV37
         TS      LEFT
         XCH     INMODE
         EXTEND
@@ -1084,7 +1468,10 @@ ENTER   CCS     INMODE
         TCF     +3
         TCF     +2
         TCF     ENTDATA
-        CCS     REQV37
+        CA      V37BIT
+        MASK    FLAGWRD1
+        EXTEND
+        BZF     +2
         TCF     ENTV37
         CA      ZERO
         TS      INMODE
@@ -1226,10 +1613,12 @@ ENTWRONG CA     BIT7        # it begins again
         DXCH    TIME2
 RELEASE TC      FREEDISP
         TCF     DISPJOB
-FREEDISP CA     ZERO        # the crew has the display no more
+FREEDISP CS     V37BIT      # the crew has the display no more
+        MASK    FLAGWRD1
+        TS      FLAGWRD1
+        CA      ZERO
         TS      INMODE
         TS      LEFT
-        TS      REQV37
         TS      MONNOUN
         TS      DSPLOCK
         TC      Q
@@ -1249,10 +1638,13 @@ PROKEY  CA      ONE
         TS      PROWAIT
         TCF     RELEASE
 # Verb 35: all lamps for five seconds. Meanwhile T4RUPT writes eights.
-VERB35  CCS     LAMPFLG
+VERB35  CA      LAMPBIT
+        MASK    FLAGWRD1
+        EXTEND
+        BZF     +2
         TCF     DISPJOB
-        CA      ONE
-        TS      LAMPFLG
+        TC      UPFLAG
+        ADRES   LAMPBIT
         CA      ALLLAMPS
         EXTEND
         WOR     LAMPS
@@ -1261,8 +1653,9 @@ VERB35  CCS     LAMPFLG
         TC      WAITLIST
         2CADR   LAMPTASK
         TC      ENDOFJOB
-LAMPTASK CA     ZERO
-        TS      LAMPFLG
+LAMPTASK CS     LAMPBIT
+        MASK    FLAGWRD1
+        TS      FLAGWRD1
         CS      ALLLAMPS    # PROG and COMP ACTY are not in it
         EXTEND
         WAND    LAMPS
@@ -1273,7 +1666,8 @@ FIVESECS DEC    500
 # table, as a restart does.
 VERB37  CA      TWO
         TS      INMODE
-        TS      REQV37
+        TC      UPFLAG
+        ADRES   V37BIT
         TCF     BEGINVN
 ENTV37  TC      FREEDISP
         CA      NOUNREG
@@ -1282,20 +1676,59 @@ ENTV37  TC      FREEDISP
         AD      LESS64
         EXTEND
         BZF     GOTOP64
-        AD      LESS2
+        AD      LESS1
+        EXTEND
+        BZF     GOTOP65
+        AD      LESS1
         EXTEND
         BZF     GOTOP66
+        AD      LESS4
+        EXTEND
+        BZF     GOTOP70
+        AD      SEVEN
+        EXTEND
+        BZF     GOTOP63
         TCF     WRONGKEY
+GOTOP63 CCS     AVEGFLG
+        TCF     WRONGKEY
+        TC      BANKCALL
+        CADR    LOADCHK
+        TC      PHASCHNG
+        OCT     24
+        TCF     RESTART
 GOTOP64 CCS     AVEGFLG
         TCF     WRONGKEY    # it flies already
-        EXTEND
-        DCA     PHASEON
-        DXCH    NPHASE4
+        TC      BANKCALL
+        CADR    LOADCHK
+        TC      PHASCHNG
+        OCT     14
         TCF     RESTART
-GOTOP66 CCS     AVEGFLG
+# P65, P66 and P70, in flight only. P66 begins with the altitude rate of this moment.
+GOTOP65 CA      ZERO
+        TS      MPAC
+        CA      SIXTY5
+        TCF     INFLIGHT
+GOTOP66 CA      VZ          # 1/64 m/s, into 0.1 m/s
+        EXTEND
+        MP      TENBY64
+        TS      MPAC
+        CA      SIXTY6
+        TCF     INFLIGHT
+GOTOP70 CA      ZERO
+        TS      MPAC
+        CA      SEVENTY
+INFLIGHT TS     MPAC +1
+        CCS     AVEGFLG
         TCF     +2
         TCF     WRONGKEY    # not on the ground
-        TC      BEGINP66
+        CA      MPAC
+        TS      RODCMD
+        CA      ZERO
+        TS      RODCOUNT
+        CA      MPAC +1
+        TS      MODREG
+        CA      SIXTY
+        TS      PDNOUN
         TCF     DISPJOB
 
 # DISPJOB: PROG, what the crew's monitor or else the program shows, flash and KEY REL; after each key, too.
@@ -1320,9 +1753,12 @@ CREW    CCS     PDNOUN
         CCS     INMODE
         TCF     +3
         TCF     MONITOR
-        TCF     +2
-        CCS     REQV37      # a program or a number is awaited
-        CA      BIT6
+        TCF     CREWLOAD
+        CA      V37BIT      # a program or a number is awaited
+        MASK    FLAGWRD1
+        EXTEND
+        BZF     CREWLOAD +1
+CREWLOAD CA     BIT6
         ADS     DSPBITS
         TCF     DISPLAMP
 MONITOR CA      MONNOUN
@@ -1335,7 +1771,10 @@ DISPNOUN TS     VERBREG
         CA      ZERO
         TS      OCTFLAG
         TC      SHOWNOUN
-DISPLAMP CCS    LAMPFLG
+DISPLAMP CA     LAMPBIT
+        MASK    FLAGWRD1
+        EXTEND
+        BZF     +2
         TC      ENDOFJOB
         INHINT
         CS      KRFLASH
@@ -1390,7 +1829,11 @@ SIGNROWS DEC    5
 
 # A noun's four words: how many registers can be loaded, and its number; the cells of its registers. A minus is before
 # those in 1/64, which are shown in 1/10.
-NOUNTAB VN      0009        # 09: alarm codes, octal
+NOUNTAB VN      0063        # 63: forward speed, altitude rate, altitude
+        -ADRES  VX
+        -ADRES  VZ
+        ADRES   ZN
+        VN      0009        # 09: alarm codes, octal
         ADRES   FAILREG
         ADRES   FAILREG +1
         ADRES   FAILREG +2
@@ -1398,6 +1841,10 @@ NOUNTAB VN      0009        # 09: alarm codes, octal
         ADRES   CLKH
         ADRES   CLKM
         ADRES   CLKS
+        VN      0047        # 47: mass, mass as predicted for low gate, and for the ground (kg)
+        ADRES   MASS
+        ADRES   PMASS
+        ADRES   TMASS
         VN      0060        # 60: forward speed (xxxx.x m/s), altitude rate (xxxx.x m/s), altitude (m)
         -ADRES  VX
         -ADRES  VZ
@@ -1406,19 +1853,23 @@ NOUNTAB VN      0009        # 09: alarm codes, octal
         -ADRES  TGO
         ADRES   XN
         ADRES   MASS
-        VN      0064        # 64: time to go, altitude rate, altitude
-        -ADRES  TGO
+        VN      0064        # 64: the landing point's angle (degrees), altitude rate, altitude
+        ADRES   LPDANG
         -ADRES  VZ
         ADRES   ZN
         VN      0166        # 66: the rate that the crew commands (xxxx.x m/s), altitude rate, altitude
         ADRES   RODCMD
         -ADRES  VZ
         ADRES   ZN
-        VN      0068        # 68: mass at low gate as predicted (kg), time to go, radar less altitude (m)
-        ADRES   PMASS
+        VN      0169        # 69: how far the site is moved forward (m), place forward of the site (m), time to go
+        ADRES   LSCORR
+        ADRES   XN
+        -ADRES  TGO
+        VN      0068        # 68: slant range to the site (m), time to go, radar less altitude (m)
+        ADRES   RANGE
         -ADRES  TGO
         ADRES   DHM
-NOUNLAST DEC    28          # where the last one begins, and 4
+NOUNLAST DEC    40          # where the last one begins, and 4
 
 # FIND: NNPTR = the place of noun NOUNREG in NOUNTAB, and 4. Without such a noun the key was wrong.
 FIND    CA      NOUNLAST
@@ -1566,7 +2017,7 @@ CLOCK   CA      MINUTE
         TCF     SHOW1
 
 # ---- bank 05: SERVICER, guidance and the programs
-        SETLOC  05,2000
+        BANK    05
 # SERVICER: the job of each second. It takes the state into its VAC area and works it on by what READACCS has collected,
 # and then, under INHINT, puts it back and takes the collected away, so that a restart finds either all of it or nothing.
 SERVICER CA     NINE
@@ -1616,11 +2067,57 @@ SERV1   TS      TEMA
         TC      STEP
         CA      FCMD
         TC      BURN
-# The radar: a quarter of the difference goes to the altitude, and 0.04 of it a second to its rate, if it is below 200 m.
+# DVMON: an engine that is on gives five pulses a second at least. Three seconds with less are an alarm.
+        CA      USEDT
+        AD      LESS50
         EXTEND
-        READ    RADAR
+        BZMF    DVDONE      # too short to tell
+        CA      USEDX
+        TC      ABS
+        TS      TEMA
+        CA      USEDZ
+        TC      ABS
+        AD      TEMA
+        AD      LESS4
         EXTEND
-        BZF     NORADAR     # it has no altitude
+        BZMF    +4
+        CA      ZERO
+        TS      NOTHRUST
+        TCF     DVDONE
+        INCR    NOTHRUST
+        CS      THREE
+        AD      NOTHRUST
+        EXTEND
+        BZF     +2
+        TCF     DVDONE
+        TC      ALARM
+        OCT     3002
+DVDONE  INDEX   PUSHLOC     # 400 kg of fuel are left: an alarm, once
+        CS      11
+        AD      LEAST
+        EXTEND
+        BZMF    FUELDONE
+        CA      FUELBIT
+        MASK    FLAGWRD1
+        EXTEND
+        BZF     +2
+        TCF     FUELDONE
+        TC      UPFLAG
+        ADRES   FUELBIT
+        TC      ALARM
+        OCT     3004
+# The radar: a difference below 200 m counts. A quarter of it goes to the altitude, and 0.04 of it a second to its rate.
+# If it is more than 2 m and a 32nd of the altitude, the load was wrong: the altitude becomes the radar's, the rate
+# stays.
+FUELDONE CA     ZERO        # what comes after this is too late
+        EXTEND
+        WRITE   CHAN13
+        TS      RADLAMPS
+        XCH     RADGOT
+        TS      USEDRAD
+        EXTEND
+        BZF     LOSTRAD     # it has no altitude
+        CA      RADWORD
         EXTEND
         MP      BIT13       # in m
         DXCH    MPAC
@@ -1636,8 +2133,25 @@ SERV1   TS      TEMA
         SU      DHM
         EXTEND
         BZF     +2
-        TCF     NORADAR
+        TCF     LOSTRAD
+        CA      DHM
+        TC      ABS
+        TS      TEMA
+        INDEX   BLK
+        CA      1
         EXTEND
+        MP      BIT10
+        AD      TWO
+        COM
+        AD      TEMA
+        EXTEND
+        BZMF    NEARRAD
+        EXTEND
+        DCA     MPAC
+        INDEX   BLK
+        DAS     1
+        TCF     RADDONE
+NEARRAD EXTEND
         DCA     MPAC
         DDOUBL
         DDOUBL
@@ -1651,7 +2165,74 @@ SERV1   TS      TEMA
         MP      RATEGAIN
         INDEX   BLK
         DAS     3
-NORADAR INHINT
+RADDONE CA      ZERO
+        TS      NORADAR
+        TCF     RADVEL
+LOSTRAD CA      BIT5        # ALT lights; six times without its altitude are an alarm
+        TS      RADLAMPS
+        INCR    NORADAR
+        CS      SIX
+        AD      NORADAR
+        EXTEND
+        BZF     +2
+        TCF     RADVEL
+        TC      ALARM
+        OCT     521
+# The radar's speeds, up to 90 degrees of tilt. A metre along the craft's upward axis has a forward part, the sine of the
+# tilt, and an upward part, its cosine; one along its forward axis has the cosine and less the sine.
+RADVEL  CS      THREE
+        AD      USEDRAD
+        EXTEND
+        BZF     +2
+        TCF     LOSTVEL
+        CA      CDUY
+        EXTEND
+        MSU     ZERO
+        TC      LIMIT
+        DEC     8191
+        TS      TILT
+        TC      SINE
+        TS      UFWD
+        CA      TILT
+        TC      ABS
+        COM
+        AD      UPRIGHT
+        TC      SINE
+        TS      UUP
+        CA      RADWORD +2
+        TC      RADAXIS
+        CS      UFWD
+        XCH     UUP
+        TS      UFWD
+        CA      RADWORD +1
+        TC      RADAXIS
+        TCF     REDESIGN
+LOSTVEL CA      BIT3        # VEL lights
+        ADS     RADLAMPS
+# Redesignation, in P64: a click of the hand controller moves the site by a 32nd of the way to it.
+REDESIGN CA     ZERO
+        XCH     REDCOUNT
+        TC      LIMIT
+        DEC     8
+        TS      TEMA
+        CS      SIXTY4
+        AD      MODREG
+        EXTEND
+        BZF     +2
+        TCF     SERVOUT
+        INDEX   PUSHLOC
+        CS      1
+        EXTEND
+        MP      BIT10
+        EXTEND
+        MP      TEMA
+        CA      L
+        ADS     LSCORR
+SERVOUT INHINT
+        CA      BIT9        # PROG stays as it is
+        MASK    SIGNS +13
+        AD      RADLAMPS
+        TS      SIGNS +13
         CA      NINE
 SERV2   TS      TEMA
         AD      PUSHLOC
@@ -1668,40 +2249,56 @@ SERV2   TS      TEMA
         ADS     DELVZ
         CS      USEDT
         ADS     DELT
+        CA      LSCORR      # the crew's correction of the site
+        TC      LIMIT
+        DEC     2000
+        COM
+        ADS     XN
+        CA      ZERO
+        TS      LSCORR
         RELINT
-# What the law wants, by the program.
-GUIDE   CS      SIXTY4
+# What the law of the program wants, by SWCALL. When fuel is low, the program becomes P70, unless the ground is near.
+GUIDE   CA      TWO
+        TS      PROGNO
+        CS      SEVENTY
         AD      MODREG
         EXTEND
-        BZF     P64
-# P66: the altitude rate comes with 1.6 s to the crew's, or to -(0.8 m/s + altitude/32 s); the forward speed goes to zero
-# with 8 s, by 0.35 m/s/s at most.
-P66     CA      RODCMD
+        BZF     GUIDE2
+        CA      FUELBIT
+        MASK    FLAGWRD1
         EXTEND
-        BZF     RODAUTO
-        TC      LIMIT       # 6.4 of our units in a tenth of a m/s; 10 m/s at most
-        DEC     100
+        BZF     GUIDE1
+        CS      ZN
+        AD      SIXTY
         EXTEND
-        MP      EIGHTHS
-        DDOUBL
-        DDOUBL
-        DDOUBL
-RODSET  EXTEND
-        SU      VZ
-        TC      LIMIT
-        DEC     256
+        BZMF    ABORT
+GUIDE1  CA      ONE
+        TS      PROGNO
+        CS      SIXTY4
+        AD      MODREG
         EXTEND
-        MP      TEN
-        CA      L
-        TS      AZ
-        CS      VX
-        TC      LIMIT
-        DEC     179
-        DOUBLE
-        TS      AX
+        BZF     +2
+        TCF     GUIDE3
+        CA      ZERO
+        TS      PROGNO
+        TCF     GUIDE2
+GUIDE3  AD      ONE
+        EXTEND
+        BZF     +2
+        TCF     GUIDE2
+        CA      THREE
+        TS      PROGNO
+        TCF     GUIDE2
+ABORT   CA      SEVENTY
+        TS      MODREG
+        CA      SIXTY
+        TS      PDNOUN
+GUIDE2  INDEX   PROGNO
+        CA      LAWTAB
+        TC      SWCALL
 
-# Steering: the craft turns to the angle of the acceleration that is wanted, with gravity, by a polynomial of its tangent,
-# which is at most 1. Its magnitude times the mass is the thrust.
+# Steering: the craft turns to the angle of the acceleration that is wanted, with gravity. Its magnitude times the mass
+# is the thrust.
 STEER   TC      THRUST
         TS      FCMD
         ZL
@@ -1710,18 +2307,7 @@ STEER   TC      THRUST
         CA      GZ
         TS      DIVISOR
         TC      DIVS
-        TS      TEMA
-        EXTEND
-        SQUARE
-        TS      TEMB
-        EXTEND
-        MP      ATANC5
-        AD      ATANC3
-        EXTEND
-        MP      TEMB
-        AD      ATANC1
-        EXTEND
-        MP      TEMA
+        TC      ARCTAN
         TS      THETAD
         INHINT
         CCS     AVEGFLG     # a leg may have touched the ground meanwhile
@@ -1736,31 +2322,197 @@ STEER   TC      THRUST
         RELINT
         CCS     NEWJOB
         TC      CHANG1
-        CS      SIXTY4      # in P64, the way ahead
+        CS      SIXTY4      # in P64, the angle of the landing point, and the way ahead
         AD      MODREG
         EXTEND
         BZF     +2
         TC      ENDOFJOB
+        TC      BANKCALL
+        CADR    LPDANGLE
+        CA      PRIO14      # it has time: the next second's guidance comes first
+        TC      PRIOCHNG
+        INHINT
         CA      BIT7        # the superbank on, until the next job begins
         EXTEND
         WRITE   SUPERBNK
-        TC      BANKJUMP
-        2CADR   PREDICT
-RODAUTO CS      ZN
-        TC      LIMIT
-        DEC     120
-        DOUBLE
-        AD      LESSROD0
-        TCF     RODSET
+        RELINT
+        EXTEND
+        DCA     PREDADR
+        DTCB
+PREDADR 2CADR   PREDICT
+# RADAXIS: a speed along an axis, in A, corrects the state in the VAC area. Half of what it has more than the state goes
+# to MPAC, and so a quarter to the state. More than 3 m/s and an eighth of the speed are left out.
+RADAXIS EXTEND
+        QXCH    LAWQ
+        TS      TEMC
+        EXTEND
+        MP      HALF
+        DXCH    MPAC
+        INDEX   PUSHLOC
+        CS      3
+        EXTEND
+        MP      UFWD
+        DAS     MPAC
+        INDEX   PUSHLOC
+        CS      7
+        EXTEND
+        MP      UUP
+        DAS     MPAC
+        CA      TEMC
+        TC      ABS
+        EXTEND
+        MP      BIT11
+        AD      NINETY6     # half of 3 m/s
+        COM
+        TS      TEMC
+        CA      MPAC
+        TC      ABS
+        AD      TEMC
+        EXTEND
+        BZMF    +2
+        TCF     RADAXIS1
+        CA      MPAC
+        EXTEND
+        MP      UFWD
+        INDEX   PUSHLOC
+        DAS     3
+        CA      MPAC
+        EXTEND
+        MP      UUP
+        INDEX   PUSHLOC
+        DAS     7
+        TC      LAWQ
+RADAXIS1 CS     BIT3        # VEL lights
+        MASK    RADLAMPS
+        AD      BIT3
+        TS      RADLAMPS
+        TC      LAWQ
+UPRIGHT DEC     8191
+CENTI   DEC     .64
+PULSE   DEC     .936        # with two pulses half of what they bring
+FALL    DEC     .2025       # half of what gravity brings
+RATEGAIN DEC    .64         # 0.04 a second of a quarter metre, in 1/64 m/s
+LAWTAB  CADR    P64LAW      # by PROGNO
+        CADR    P66LAW
+        CADR    P70LAW
+        CADR    P63LAW
+LESS50  DEC     -50
+LEAST   DEC     6900
 
+# P63 and P64: V06N61 flashes until PRO; then the engine is on, and guidance begins, by the phase table.
+P64TASK CA      PRIO20
+        TC      NOVAC
+        2CADR   P64JOB
+        TC      TASKOVER
+P63TASK CA      PRIO20
+        TC      NOVAC
+        2CADR   P63JOB
+        TC      TASKOVER
+P63JOB  CA      SIXTY3
+        TCF     +2
+P64JOB  CA      SIXTY4
+        TS      MODREG
+        CA      SIXTY1
+        TS      PDNOUN
+        INHINT
+        CA      PRIO30
+        TC      NOVAC
+        2CADR   DISPJOB
+        CA      WAKEADR
+        TS      PROWAIT
+        TC      JOBSLEEP
+WAKEADR ADRES   P64WAKE
+P64WAKE INHINT
+        CA      ZERO        # group 4 is done. PHASCHNG would let an alarm come before group 5 is at work
+        TS      NPHASE4
+        TS      PHASE4
+        CCS     PROANS
+        TCF     IGNITION
+        TCF     GOTOP00     # terminated
+IGNITION CA     BIT13
+        EXTEND
+        WOR     LAMPS       # the order that turns the engine on
+        CA      ZERO
+        TS      PIPAX
+        TS      PIPAZ
+        TS      DELVX
+        TS      DELVZ
+        TS      DELT
+        TS      SUMX
+        TS      SUMZ
+        TS      LASTX
+        TS      LASTZ
+        TS      NOTHRUST
+        TS      NORADAR
+        TS      RADGOT
+        TS      REDCOUNT
+        CS      FLIGHTBT
+        MASK    FLAGWRD1
+        TS      FLAGWRD1
+        CA      CDUY
+        EXTEND
+        MSU     ZERO
+        TS      DAPLAST
+        TS      THETAD
+        CA      ONE
+        TS      AVEGFLG
+        TS      DAPON
+        CA      TIME1
+        TS      PIPTIME
+        CA      MODREG      # noun 63 or 64
+        TS      PDNOUN
+        TC      PHASCHNG
+        OCT     15
+        TCF     RESTART
+FLIGHTBT OCT    14
+SIXTY3  DEC     63
+
+# P68: on the ground. 0.9 s after the autopilot's last look, P68TASK starts P68JOB, which has the touchdown judged. The
+# display stays with the crew, or shows noun 60 once more.
+P68TASK CA      ZERO
+        TS      TOUCHT
+        CS      LASTT
+        AD      TIME1
+        AD      POSMAX      # as in READACCS
+        AD      ONE
+        ADS     TOUCHT
+        CS      NINETY
+        AD      TOUCHT
+        EXTEND
+        BZMF    P68WAIT
+        CA      PRIO30
+        TC      NOVAC
+        2CADR   P68JOB
+        TC      TASKOVER
+P68WAIT TC      FIXDELAY
+        DEC     10
+        TCF     P68TASK
+P68JOB  TC      BANKCALL
+        CADR    JUDGE
+        TS      MODREG
+        TC      PHASCHNG
+        OCT     23
+P68SHOW CA      SIXTY
+        TS      PDNOUN
+        TC      POSTJUMP
+        CADR    DISPJOB
+P68AGAIN CA     PRIO30      # after a restart
+        TC      NOVAC
+        2CADR   P68SHOW
+        TC      TASKOVER
+
+# ---- bank 07: the laws of the programs. Each takes the state, and gives AX and AZ. Called by SWCALL.
+        BANK    07
 # P64: time to go is 3 way/(speed + 2 target speed), for which the forward acceleration becomes linear in time and ends
-# at zero. At 12 s to go, or where the craft is slow or past the site, P66 begins.
+# at zero. At 12 s to go, or past the site, P65 begins. The craft never descends faster than by 2 m/s and a twentieth,
+# each second, of its altitude over a line that begins 30 m above the site and rises by 1 in 40.
+P64LAW  EXTEND
+        QXCH    PROGQ
 P64     CA      VX
         AD      TWOVTX
+        TC      ATLEAST
+        DEC     64          # 1 m/s
         TS      DIVISOR
-        AD      LESS64      # 1 m/s
-        EXTEND
-        BZMF    LOWGATE
         EXTEND
         DCS     XN
         DXCH    MPAC
@@ -1777,101 +2529,278 @@ P64     CA      VX
         BZMF    LOWGATE
         CA      FOUR
         TC      LAW
+        TS      TEMC
         CA      ZERO
         TC      LAW
-        TCF     STEER
-LOWGATE TC      BEGINP66
-        TCF     P66
-CENTI   DEC     .64
-PULSE   DEC     .936        # with two pulses half of what they bring
-FALL    DEC     .2025       # half of what gravity brings
-RATEGAIN DEC    .64         # 0.04 a second of a quarter metre, in 1/64 m/s
-TWOVTX  DEC     256
-THREEBY4 DEC    .75
-LESS12SC DEC    -768
-LESSROD0 DEC    -51         # 0.8 m/s
-EIGHTHS DEC     .8
-ATANC1  DEC     5191        # in CDU pulses
-ATANC3  DEC     -1506
-ATANC5  DEC     414
-
-# P64: V06N61 flashes until PRO; then the engine is on, and guidance begins, by the phase table.
-P64TASK CA      PRIO20
-        TC      NOVAC
-        2CADR   P64JOB
-        TC      TASKOVER
-P64JOB  CA      SIXTY4
-        TS      MODREG
-        CA      SIXTY1
-        TS      PDNOUN
-        INHINT
-        CA      PRIO30
-        TC      NOVAC
-        2CADR   DISPJOB
-        CA      WAKEADR
-        TS      PROWAIT
-        TC      JOBSLEEP
-WAKEADR ADRES   P64WAKE
-P64WAKE INHINT
-        CA      ZERO
-        TS      NPHASE4
-        TS      PHASE4
-        CCS     PROANS
-        TCF     IGNITION
-        TCF     GOTOP00     # terminated
-IGNITION CA     BIT13
+        CA      ZN
+        TC      ATMOST
+        DEC     1150
+        TS      TEMA
+        CA      XN
         EXTEND
-        WOR     LAMPS       # the order that turns the engine on
-        CA      ZERO
-        TS      PIPAX
-        TS      PIPAZ
-        TS      DELVX
-        TS      DELVZ
-        TS      DELT
-        CA      CDUY
+        MP      FORTIETH
+        AD      LESS30
+        AD      TEMA
         EXTEND
-        MSU     ZERO
-        TS      DAPLAST
-        TS      THETAD
-        CA      ONE
-        TS      AVEGFLG
-        TS      DAPON
-        CA      TIME1
-        TS      PIPTIME
-        CA      SIXTY4
-        TS      PDNOUN
+        MP      EIGHTHS
+        DOUBLE
+        DOUBLE
+        AD      SINK
+        COM
+        TC      RATELAW
         EXTEND
-        DCA     PHASEON
-        DXCH    NPHASE5
-        TCF     RESTART
-
-# P68: on the ground. The display stays with the crew, or shows noun 60 once more.
-P68JOB  CA      SIXTY8
+        SU      TEMC
+        EXTEND
+        BZMF    +2
+        TCF     LAWDONE
+        CA      TEMC
+        TS      AZ
+        TCF     LAWDONE
+# Low gate: whoever comes to it above 150 m or faster than 20 m/s cannot reach the site. P65 lands elsewhere.
+LOWGATE CA      SIXTY5
         TS      MODREG
         CA      SIXTY
         TS      PDNOUN
-        CA      PRIO17      # the rest has time
-        TC      PRIOCHNG
-        TC      ENDOFJOB
+        CA      ZERO
+        TS      RODCOUNT
+        CA      ZN
+        AD      LESS150
+        EXTEND
+        BZMF    +2
+        TCF     FARGATE
+        CA      VX
+        TC      ABS
+        AD      LESS20MS
+        EXTEND
+        BZMF    P66
+FARGATE CA      SITEBIT
+        MASK    FLAGWRD1
+        EXTEND
+        BZF     +2
+        TCF     P66
+        TC      UPFLAG
+        ADRES   SITEBIT
+        TC      ALARM
+        OCT     3003
+        TCF     P66
+# P65 and P66: the altitude rate goes to the crew's with 1.6 s, or to -(0.8 m/s + altitude/32 s), 30.8 m/s at most.
+# While the craft is fast forward, it descends less: by half of what its speed has over 0.5 m/s + altitude/8 s. A click of
+# the switch for the rate of descent begins P66 with the rate of this moment. It changes the crew's rate by 0.3 m/s.
+P66LAW  EXTEND
+        QXCH    PROGQ
+P66     CS      SIXTY6
+        AD      MODREG
+        EXTEND
+        BZF     RODCREW
+        CA      RODCOUNT
+        EXTEND
+        BZF     RODAUTO
+        CA      SIXTY6
+        TS      MODREG
+        CA      VZ
+        EXTEND
+        MP      TENBY64
+        TS      RODCMD
+RODCREW CA      ZERO
+        XCH     RODCOUNT
+        EXTEND
+        MP      THREE
+        CA      L
+        AD      RODCMD
+        TC      LIMIT       # 6.4 of our units in a tenth of a m/s; 10 m/s at most
+        DEC     100
+        TS      RODCMD
+        EXTEND
+        MP      EIGHTHS
+        DDOUBL
+        DDOUBL
+        DDOUBL
+        TS      RODMOST
+        CA      ZN          # but not faster down than 0.8 m/s + altitude/8 s
+        TC      ATMOST
+        DEC     960
+        TC      ATLEAST
+        DEC     0
+        EXTEND
+        MP      EIGHT
+        CA      L
+        AD      ROD0
+        AD      RODMOST     # minus: the crew wants more
+        TC      ATMOST
+        DEC     0
+        COM
+        AD      RODMOST
+RODSET  TC      RATELAW
+# The forward speed goes to zero: with 8 s by 0.35 m/s/s at most, or with 16 s by 1.2 m/s/s at most, whichever is more.
+        CS      VX
+        TC      LIMIT
+        DEC     179
+        DOUBLE
+        TS      AX
+        CA      VX
+        TC      ABS
+        AD      LESS358
+        EXTEND
+        BZMF    LAWDONE
+        CS      VX
+        TC      LIMIT
+        DEC     1228
+        TS      AX
+LAWDONE INDEX   PROGQ
+        TC      0
+RODAUTO CA      ZN
+        TC      ATMOST
+        DEC     960
+        TC      ATLEAST
+        DEC     0
+        TS      TEMA
+        DOUBLE
+        AD      ROD0
+        TS      RODMOST     # the rate down
+        CA      TEMA
+        DOUBLE
+        DOUBLE
+        DOUBLE
+        AD      ROD1
+        TS      TEMA        # the forward speed that is no matter yet
+        CA      VX
+        TC      ABS
+        EXTEND
+        SU      TEMA
+        EXTEND
+        MP      HALF
+        TC      ATLEAST
+        DEC     0
+        EXTEND
+        SU      RODMOST
+        TC      ATMOST
+        DEC     0
+        TCF     RODSET
+# RATELAW: AZ, so that the altitude rate goes to A with 1.6 s.
+RATELAW EXTEND
+        QXCH    LAWQ
+        EXTEND
+        SU      VZ
+        TC      LIMIT
+        DEC     307         # 3 m/s/s
+        EXTEND
+        MP      TEN
+        CA      L
+        TS      AZ
+        TC      LAWQ
 
-# ---- bank 06: fresh start, P00 and restart
-        SETLOC  06,2000
-# FRESH, after power on or verb 36: all is given up but the state, the clock and the last alarm code. GOP00, program 00: the
-# display stays as well. GORESTRT, after an alarm or where a program begins: jobs and tasks are dropped, and what the phase
-# table names for each group at work begins again. A phase that does not match its complement leads to a fresh start.
+# P70, the abort: the craft climbs, to 50 m/s by 3 m/s/s. Once it is at 10 m/s, it goes forward, too, by 1.2 m/s/s.
+P70LAW  EXTEND
+        QXCH    PROGQ
+        CA      CLIMB
+        TC      RATELAW
+        CA      ZERO
+        TS      AX
+        CS      VZ
+        AD      CLIMB1
+        EXTEND
+        BZMF    +2
+        TCF     LAWDONE
+        CA      FORWARD
+        TS      AX
+        TCF     LAWDONE
+# P63, the braking phase: to high gate, 7500 m before the site, 2300 m up, at 150 m/s forward. The time to go is that at
+# the mean of both speeds. The craft brakes evenly, and goes straight down to that altitude, never up. Two seconds before
+# high gate P64 begins.
+P63LAW  EXTEND
+        QXCH    PROGQ
+        CS      XN
+        AD      LESS7500
+        TC      ATLEAST
+        DEC     0
+        ZL
+        DXCH    MPAC        # the way to high gate
+        CA      VX
+        EXTEND
+        MP      HALF
+        AD      HALFVHG
+        TC      ATLEAST
+        DEC     64
+        TS      DIVISOR
+        TC      DIVS
+        EXTEND
+        MP      BIT13
+        TS      TGO
+        TS      DIVISOR
+        AD      LESS2SEC
+        EXTEND
+        BZMF    HIGHGATE
+        CS      VX
+        AD      VHG
+        EXTEND
+        MP      BIT13
+        DXCH    MPAC
+        TC      DIVS        # in 2 to the -12 m/s/s
+        EXTEND
+        MP      BIT13
+        TS      AX
+        CS      ZN
+        AD      HHG
+        ZL
+        DXCH    MPAC
+        TC      DIVS
+        EXTEND
+        MP      BIT13
+        TC      ATMOST
+        DEC     0
+        TC      RATELAW
+        TCF     LAWDONE
+HIGHGATE CA     SIXTEEN
+        DOUBLE
+        DOUBLE
+        TS      MODREG      # 64, the program
+        TS      PDNOUN      # and the noun
+        TCF     P64
+LESS7500 DEC    -7500
+HALFVHG DEC     4800
+VHG     DEC     9600
+HHG     DEC     2300
+LESS2SEC DEC    -128
+TWOVTX  DEC     256
+THREEBY4 DEC    .75
+LESS12SC DEC    -768
+ROD0    DEC     51          # 0.8 m/s
+ROD1    DEC     32          # 0.5 m/s
+FORTIETH DEC    .025
+EIGHTHS DEC     .8
+LESS30  DEC     -30
+SINK    DEC     128         # 2 m/s
+LESS20MS DEC    -1280       # 20 m/s
+LESS150 DEC     -150
+LESS358 DEC     -358
+CLIMB   DEC     3200        # 50 m/s
+CLIMB1  DEC     640         # 10 m/s
+FORWARD DEC     1229        # 1.2 m/s/s
+
+# ---- bank 06: fresh start, P00 and restart, and what BANKCALL calls
+        BANK    06
+# FRESH, after power on or verb 36: all is given up but the state, the clock and the last alarm code. GOP00, program 00:
+# the display stays as well. GORESTRT, after an alarm or where a program begins: jobs and tasks are dropped, and what
+# the phase table names for each group at work begins again. A phase that does not match its complement leads to a fresh
+# start.
 FRESH   TC      ENGOFF
         CA      ALLCELLS
         TCF     START1
 GOP00   TC      ENGOFF
         CA      P00CELLS
         TCF     START1
-GORESTRT CA     SEVEN
-START1  TS      RSTI        # the cells from NEWJOB up to there: +0
+GORESTRT CA     FOUR
+START1  TS      RSTI        # the cells from T3MORE up to there: +0
         CA      ZERO
         INDEX   RSTI
-        TS      NEWJOB
+        TS      T3MORE
         CCS     RSTI
         TCF     START1
+        CA      ZERO
+        TS      NEWJOB
+        CS      RESTBITS
+        MASK    FLAGWRD1
+        TS      FLAGWRD1
         CA      SEVEN       # no task
 START2  TS      RSTI
         CA      DT80S
@@ -1919,27 +2848,29 @@ START4  CS      ZERO
         TS      TIME4
         CA      T5DT
         TS      TIME5
-        CA      TWO
+        CA      SEVEN       # after READACCS
         TC      WAITLIST
         2CADR   MONTASK
-        CA      TWO
-GROUPS  TS      RSTI        # 2, 0: the groups 5 and 4
+        CA      FOUR
+GROUPS  TS      RSTI        # 4, 2, 0: the groups 5, 4 and 3
         INDEX   RSTI
-        CA      NPHASE4
+        CA      NPHASE3
         INDEX   RSTI
-        AD      PHASE4
+        AD      PHASE3
         EXTEND
         BZF     +4
         CA      ALM1107
         TC      SETALARM
         TCF     FRESH
         INDEX   RSTI
-        CCS     PHASE4
-        TCF     +2
-        TCF     GROUPEND    # nothing of this group was at work
+        CA      PHASE3
         EXTEND
-        INDEX   RSTI
-        DCA     PHASETAB
+        BZF     GROUPEND    # nothing of this group was at work
+        AD      RSTI
+        DOUBLE
+        EXTEND
+        INDEX   A
+        DCA     PHASETAB -2
         DXCH    NEWLOC
         CA      TWO
         TS      WAITDT
@@ -1951,25 +2882,157 @@ GROUPEND CA     RSTI
         AD      LESS2
         TCF     GROUPS
 GROUPRET ADRES  GROUPEND
-PHASETAB 2CADR  P64TASK     # the phase table: the task of each group
-        2CADR   READACCS
-P00CELLS DEC    15          # up to PDNOUN
-ALLCELLS DEC    56          # up to the second alarm code
+PHASETAB 2CADR  P68TASK     # the phase table: the tasks of phases 1 and 2, for group 3,
+        2CADR   P68AGAIN
+        2CADR   P64TASK     # 4,
+        2CADR   P63TASK
+        2CADR   GUIDTASK    # and 5
+        2CADR   GUIDTASK
+P00CELLS DEC    14          # up to PDNOUN
+ALLCELLS DEC    55          # up to the second alarm code
 VAC1ADR ADRES   VAC1USE
 VACSIZE DEC     20
 TIME3ST DEC     8384        # 80 seconds to the carry
 ALM1107 OCT     1107
 
-# ---- bank 40, behind the superbank: the way ahead
-        SETLOC  40,2000
-# PREDICT goes on from the state in the VAC area, and flies the rest of P64 by the same law, in steps of an 80th of the
-# time to go, for the mass at low gate. It gives way after each step.
-PREDICT CA      TGO
+# LOADCHK: is the load a craft's? Its altitude is above -64 m, its mass 6500 to 9000 kg.
+LOADCHK CA      ZN
+        AD      SIXTY4
         EXTEND
-        MP      TWENTIET
-        TS      STEPDT
+        BZMF    BADLOAD
+        CA      MASS
+        AD      LESS6500
+        EXTEND
+        BZMF    BADLOAD
+        AD      LESS2500
+        EXTEND
+        BZMF    +3
+BADLOAD TC      POODOO
+        OCT     3005
+        TC      Q
+LESS6500 DEC    -6500
+LESS2500 DEC    -2500
+
+# JUDGE: A = 68 or 69 for the touchdown, by the accelerometers: since the autopilot's last look they have counted
+# gravity, and what stopped the craft. Outside the limits, 1.5 m/s down, 0.6 m/s forward or back and 3 degrees, alarm
+# 3001 comes.
+JUDGE   EXTEND
+        QXCH    PROGQ
+        CA      TOUCHT
+        EXTEND
+        MP      GPULSES
+        AD      LASTZ
+        COM
+        AD      SUMZ
+        AD      PIPAX
+        AD      LESS26
+        EXTEND
+        BZMF    +2
+        TCF     CRASH
+        CA      SUMX
+        AD      PIPAZ
+        EXTEND
+        SU      LASTX
+        TC      ABS
+        AD      LESS10
+        EXTEND
+        BZMF    +2
+        TCF     CRASH
+        CA      CDUY
+        EXTEND
+        MSU     ZERO
+        TC      ABS
+        AD      LESS273
+        EXTEND
+        BZMF    +2
+        TCF     CRASH
+        CA      SIXTY8
+        TCF     +4
+CRASH   TC      ALARM
+        OCT     3001
+        CA      SIXTY9
+        INDEX   PROGQ
+        TC      0
+GPULSES DEC     .2769       # gravity brings so many pulses in a hundredth of a second
+LESS26  DEC     -26         # 1.5 m/s
+LESS273 DEC     -273        # 3 degrees
+
+# LPDANGLE: the angle in degrees from the craft's forward axis down to the site, at which the crew sees it in the window.
+LPDANGLE EXTEND
+        QXCH    PROGQ
+        CS      XN          # its tangent from the horizon: altitude/way, or way/altitude
+        TS      DIVISOR
+        COM
+        AD      ZN
+        EXTEND
+        BZMF    LPDLOW
+        CA      DIVISOR
+        ZL
+        DXCH    MPAC
+        CA      ZN
+        TS      DIVISOR
+        TC      DIVS
+        TC      ARCTAN
+        COM
+        AD      RIGHTANG    # 90 degrees less that
+        TCF     LPDTILT
+LPDLOW  CA      ZN
+        ZL
+        DXCH    MPAC
+        TC      DIVS
+        TC      ARCTAN
+LPDTILT TS      TEMA
+        CA      CDUY
+        EXTEND
+        MSU     ZERO
+        COM
+        AD      TEMA
+        EXTEND
+        MP      DEGREES
+        TS      LPDANG
+        INDEX   PROGQ
+        TC      0
+DEGREES DEC     .010986
+RIGHTANG DEC    8192
+
+# RANGEJOB: the slant range to the site, for noun 68. It has a low priority: the crew has time.
+RANGEJOB CA     XN
+        TC      ABS
+        TC      ATMOST
+        DEC     15500
+        EXTEND
+        SQUARE
+        DXCH    MPAC
+        CA      ZN
+        EXTEND
+        SQUARE
+        DAS     MPAC
+        TC      SQRT
+        TS      RANGE
+        TC      ENDOFJOB
+
+# ---- bank 40, behind the superbank: the way ahead
+        BANK    40
+# PREDICT goes on from the state in the VAC area, and flies the rest of P64 by the same law, in steps of a 70th of the
+# time to go, for the mass at low gate; then it hovers for as long as the way down takes, for the mass on the ground. It
+# gives way after each step; what it needs then is in the VAC area, too: the steps left in word 13, the step of time in
+# 14, the time to go in 15.
+PREDICT CA      TGO
+        INDEX   PUSHLOC
+        TS      15
+        EXTEND
+        MP      STEPPART
+        INDEX   PUSHLOC
+        TS      14
         CA      STEPS
-PRSTEP  TS      PRN
+PRSTEP  INDEX   PUSHLOC
+        TS      13
+        INDEX   PUSHLOC
+        CA      14
+        TS      STEPDT
+        INDEX   PUSHLOC
+        CA      15
+        TS      LAWT
         CA      FOUR
 PRAXIS  TC      LAW
         EXTEND
@@ -1987,14 +3050,36 @@ PRAXIS  TC      LAW
         CS      STEPDT
         EXTEND
         MP      BIT13
-        ADS     LAWT
+        INDEX   PUSHLOC
+        ADS     15
         CCS     NEWJOB
         TC      CHANG1
-        CCS     PRN
+        INDEX   PUSHLOC
+        CCS     13
         TCF     PRSTEP
         INDEX   PUSHLOC
         CA      11
         TS      PMASS
+        CA      LANDSTPS
+PRLAND  INDEX   PUSHLOC
+        TS      13
+        CA      LANDDT
+        TS      STEPDT
+        CA      ZERO
+        TS      AX
+        TS      AZ
+        TC      THRUST
+        TC      BURN
+        CCS     NEWJOB
+        TC      CHANG1
+        INDEX   PUSHLOC
+        CCS     13
+        TCF     PRLAND
+        INDEX   PUSHLOC
+        CA      11
+        TS      TMASS
         TC      ENDOFJOB
-STEPS   DEC     74          # up to a sixteenth of the time to go, where the law wants too much
-TWENTIET DEC    .05
+STEPS   DEC     65          # up to a seventeenth of the time to go, where the law wants too much
+STEPPART DEC    .057143     # a 70th in units of 1/256 s
+LANDSTPS DEC    18          # nineteen steps
+LANDDT  DEC     512         # of 2 s

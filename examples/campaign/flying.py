@@ -1,0 +1,218 @@
+"""A landing of examples/descent for a row of a table, and its row of results.
+
+A row of the table holds what craft.py takes as options, and the restarts. A worker flies it, on this machine or another.
+"""
+
+import argparse
+import hashlib
+import os
+
+from agc import Console, Refused
+from craft import (
+    APPROACH, BEFORE_HIGH_GATE, BRAKING, DRY, HIGH_GATE, LOADED, climbs_away, craft_of, fault_at, finite, fly, key_at, refusal,
+)
+
+INPUTS = [
+    "seed", "height", "way", "forward", "down", "braking", "fuel", "loaded_height", "loaded_mass", "faults", "keys", "restarts",
+]
+"""The columns of a table of flights."""
+
+OUTPUTS = [
+    "end", "program", "alarms", "up", "forward_then", "tilt", "miss", "fuel_left", "seconds", "cycles", "events", "script",
+    "came", "restart_cycle", "restart_place", "restart_height", "restart_program", "speeds",
+]
+"""The columns of the results, after the number of the flight and its inputs."""
+
+MARKS = [4000, 3000, 2300, 2000, 1500, 1000, 700, 500, 300, 200, 150, 100, 70, 50, 30, 20, 10, 5]
+"""The heights in metres at which the speeds of a flight are kept."""
+
+CORE_SETS = 7  # the Executive has these besides set 0
+CORE_SET_WORDS = 12
+TAKEN = 0o76777  # a priority that is not that of a free set
+MOST_RESTARTS = 4000  # in a flight: a script has room for 65,536 events
+
+
+def number(text):
+    """Returns the number of a cell."""
+    try:
+        return finite(text)
+    except (ValueError, argparse.ArgumentTypeError):
+        raise ValueError(f"{text!r} is no number") from None
+
+
+def whole(text):
+    """Returns the whole number of a cell."""
+    if not text.isdigit():
+        raise ValueError(f"{text!r} is no whole number")
+    return int(text)
+
+
+def yes_or_no(text):
+    """Returns whether a cell says yes."""
+    if text not in ("yes", "no"):
+        raise ValueError(f"{text!r} is neither yes nor no")
+    return text == "yes"
+
+
+def listed(read):
+    """Returns what reads several words with spaces between."""
+
+    def read_all(text):
+        try:
+            return [read(word) for word in text.split()]
+        except (ValueError, argparse.ArgumentTypeError) as error:
+            raise ValueError(str(error)) from None
+
+    return read_all
+
+
+def restarts_of(text):
+    """Returns the first cycle, the step and the last cycle of FIRST, or FIRST:EVERY:LAST."""
+    parts = text.split(":")
+    if len(parts) not in (1, 3) or not all(part.isdigit() for part in parts):
+        raise ValueError(f"{text!r} names no restarts: FIRST, or FIRST:EVERY:LAST, in cycles")
+    first, every, last = (int(part) for part in (parts if len(parts) == 3 else (text, "1", text)))
+    if every < 1 or not first <= last <= 10**12:
+        raise ValueError(f"{text!r}: EVERY is 1 or more, and LAST is not before FIRST")
+    if (last - first) // every >= MOST_RESTARTS:
+        raise ValueError(f"{text!r}: a flight has room for {MOST_RESTARTS} restarts")
+    return first, every, last
+
+
+READERS = {
+    **{name: number for name in ("height", "way", "forward", "down", "fuel", "loaded_height", "loaded_mass")},
+    "seed": whole, "braking": yes_or_no, "faults": listed(fault_at), "keys": listed(key_at), "restarts": restarts_of,
+}
+
+
+def flight_of(row):
+    """Returns a row's flight with the names of craft.py's options; an empty cell is that option's default. A faulty cell is a
+    ValueError that begins with its column."""
+    flight = argparse.Namespace(**{name: None for name in INPUTS})
+    for name, text in row.items():
+        try:
+            if text:
+                setattr(flight, name, READERS[name](text))
+        except ValueError as error:
+            raise ValueError(f"{name}: {error}") from None
+    defaults = {"seed": 1, "fuel": LOADED - DRY, "faults": [], "keys": []}
+    for name, value in {**(BEFORE_HIGH_GATE if flight.braking else HIGH_GATE), **defaults}.items():
+        if getattr(flight, name) is None:
+            setattr(flight, name, value)
+    wrong = refusal(flight)
+    if wrong:
+        name, _, why = wrong[len("argument --") :].partition(":")
+        raise ValueError(f"{name.replace('-', '_')}:{why}")
+    flight.fault = flight.faults
+    return flight
+
+
+def restart_script(restarts, names):
+    """Returns the script that takes all core sets at each cycle of the restarts: the program's next call of NOVAC or FINDVAC
+    finds none, and its alarm 1202 restarts it."""
+    if restarts is None:
+        return ""
+    first, every, last = restarts
+    priority = int(place_of("PRIORITY", names).split(",")[1], 8)
+    cells = [priority + CORE_SET_WORDS * core for core in range(1, CORE_SETS + 1)]
+    return "".join(f"every {every} {first} {last} poke 0 {cell:o} {TAKEN:o}\n" for cell in cells)
+
+
+def place_of(name, names):
+    """Returns the place of a name in a text of names."""
+    return next(line.split()[0] for line in names.splitlines() if line.split()[1:] == [name])
+
+
+class Witness(Console):
+    """A console that stops on its way where a restart begins, and keeps what was interrupted."""
+
+    def __init__(self, restarts, *words, **options):
+        super().__init__(*words, **options)
+        self.coming = list(range(restarts[0], restarts[2] + 1, restarts[1])) if restarts else []
+        self.count = 0
+        self.last = ("", "")
+        self.came = False
+
+    def go_to(self, cycle):
+        """As the console's, with a stop at each call of BAILOUT that a restart has brought."""
+        writes = []
+        while self.coming and self.coming[0] < cycle:
+            if self.cycle < self.coming[0]:
+                writes += super().go_to(self.coming[0])
+            found = self.until("BAILOUT", within=cycle - self.cycle) if self.cycle < cycle else None
+            if found is None:
+                break
+            writes += found.writes
+            if not found.came:
+                break
+            self.count += 1
+            self.last, self.came = (str(self.cycle), self.interrupted()), True
+            self.coming = [due for due in self.coming if due > self.cycle]
+        return writes + super().go_to(cycle)
+
+    def interrupted(self):
+        """Returns the place of the order that the restart drops: the interrupted one, if a service has called it."""
+        where = self.where()
+        place = where.interrupted or where.order
+        return place.name or place.place
+
+
+class Track:
+    """The speeds of a flight as it falls below each mark: forward and up."""
+
+    def __init__(self, craft):
+        self.marks = [mark for mark in MARKS if mark < craft.height]
+        self.found = []
+
+    def look(self, craft):
+        while self.marks and craft.height < self.marks[0]:
+            self.found.append(f"{self.marks.pop(0)}:{craft.forward:.2f}:{craft.up:.2f}")
+
+
+def end_of(agc, craft, refused):
+    """Returns how a flight has ended, in one word."""
+    if craft.touched:
+        return "landed" if craft.landed() else "crashed"
+    if refused:
+        return "refused"
+    return "aborted" if climbs_away(agc, craft) else "unfinished"
+
+
+def flown(flight, rope, names, program, script):
+    """Flies, and returns the results as texts, and the script that repeats the flight. The files are paths."""
+    craft = craft_of(flight)
+    keys = {**(BRAKING if flight.braking else APPROACH), **dict(flight.keys)}
+    track, refused, seconds, at = Track(craft), None, 0.0, ("", "")
+    with Witness(flight.restarts, rope, script, names=names, program=program) as agc:
+        try:
+            for seconds, _ in fly(agc, craft, keys):
+                track.look(craft)
+                if agc.came:
+                    agc.came, at = False, (f"{craft.height:.0f}", agc.panel()["PROG"])
+        except Refused as error:
+            refused = error
+        text = agc.script()
+        alarms = [f"{code:05o}" for code in agc.cells("FAILREG", 3) if code]
+        results = [end_of(agc, craft, refused), agc.panel()["PROG"], " ".join(alarms), *touchdown_of(craft)]
+        results += [f"{craft.mass - DRY:.1f}", f"{seconds:.2f}", str(agc.cycle), str(len(text.splitlines()))]
+        results += [hashlib.sha256(text.encode()).hexdigest()[:12], str(agc.count), *agc.last, *at, " ".join(track.found)]
+        return results, text
+
+
+def touchdown_of(craft):
+    """Returns the touchdown's speeds up and forward, the tilt, and how far it is behind the site; empty texts without one."""
+    if not craft.touched:
+        return ["", "", "", ""]
+    up, forward, tilt, way = craft.touched
+    return [f"{up:.3f}", f"{forward:.3f}", f"{tilt:.3f}", f"{-way:.2f}"]
+
+
+def fly_row(row, files, program, folder):
+    """Flies a row of the table, and returns its results and the script. `files` has the bytes of the rope and of its names."""
+    flight = flight_of(row)
+    contents = {**files, "script": restart_script(flight.restarts, files["names"].decode()).encode()}
+    paths = {name: os.path.join(folder, name) for name in contents}
+    for name, data in contents.items():
+        with open(paths[name], "wb") as file:
+            file.write(data)
+    return flown(flight, paths["rope"], paths["names"], program, paths["script"])
