@@ -1,28 +1,22 @@
-"""The client of agc-console, call by call. The words are: the program agc, the program agc-console, the top of the
-repository."""
+"""The client of agc-console, call by call."""
 
+import contextlib
 import os
+import pickle
+import resource
 import shutil
 import signal
 import subprocess
 import sys
 import tempfile
+import threading
+import time
 
-from agc import Breakpoint, Came, Console, Ended, Hit, Location, Number, Refused, Registers, Where, Write
+import agc as client
+from agc import Breakpoint, Came, Console, Ended, Hit, Location, NotSaved, Number, Refused, Registers, Where, Write
+from judge import AGC, CONSOLE, TOP, finish, judge
 
-program, console, top = sys.argv[1:4]
-passed = 0
-failed = 0
-
-
-def judge(what, wanted, came):
-    """A case, which is told where it is not as it should be."""
-    global passed, failed
-    if wanted == came:
-        passed += 1
-    else:
-        failed += 1
-        print(f"client: {what}: wanted {wanted!r}, came {came!r}", file=sys.stderr)
+program, console, top = AGC, CONSOLE, TOP
 
 
 def raised(kind, call, *words):
@@ -31,6 +25,14 @@ def raised(kind, call, *words):
         return call(*words)
     except kind as error:
         return str(error)
+
+
+def refused(call, *words):
+    """The name and the sentence of the fault for which a call is refused, or what it returns."""
+    try:
+        return call(*words)
+    except Refused as error:
+        return error.name, str(error)
 
 
 def example(name, **named):
@@ -107,6 +109,51 @@ def try_events():
         judge("tables", 12, len(agc.tables("1,0,2,1,100,1,200")))
 
 
+def try_deferred():
+    """Deferred events: the script of try_events and its writes, with fewer exchanges; refused ones; the end."""
+    wanted = "0 input 30 37776\n0 pro down\n0 pro up\n0 pulse 37 pinc\n1 poke 3 0 12345\n1 raise 8\n"
+    with example("watch") as agc:
+        said = []
+        agc.on_answer = lambda command, answer: said.append((command, answer.cycle))
+        agc.defer()
+        agc.input(0o30, 0o37776)
+        agc.pro(True)
+        agc.pro(False)
+        agc.pulse(0o37, "pinc")
+        judge("they wait", [], said)
+        judge("a look sends them", (1, None), (agc.cycle, agc.stop))
+        agc.poke(3, 0, 0o12345)
+        agc.raise_interrupt(8)
+        judge("a cell is read after them", 0o12345, agc.cell("E3,1400"))
+        answers = [("input 30 37776", 0), ("pro down", 0), ("pro up", 0), ("pulse 37 pinc", 1), ("poke 3 0 12345", 1), ("raise 8", 1)]
+        judge("each has its answer, in order", answers, said[:6])
+        judge("the script of events", wanted, agc.script())
+        agc.key("ENTER")
+        agc.key("4")
+        judge("a refused one", "unknown key; did you mean ENTR?", raised(Refused, agc.go, 9))
+        judge("the next call has happened", True, agc.cycle >= 10)
+        judge("and the events after it", wanted + "1 key 4\n", agc.script())
+        judge("two lines are no key", "no command: 'key 1\\nkey 1'", raised(ValueError, agc.key, "1\nkey 1"))
+        judge("deferred or not", "deferred or not: True or False", raised(TypeError, agc.defer, "yes"))
+        agc.raise_interrupt(4)
+        agc.defer(False)
+        judge("the end of it sends them", ("raise 4", True), (said[-1][0], agc.script().endswith(" raise 4\n")))
+    with example("keys") as agc:
+        agc.defer()
+        for _ in range(2500):
+            agc.pulse(0o37, "pinc")
+        agc.key("4")
+    judge("a close sends them", (2501, "2500 key 4"), (len(agc.script().splitlines()), agc.script().splitlines()[-1]))
+    with example("division") as agc:
+        agc.defer()
+        agc.go(100)
+        judge("a stopped machine refuses at once", "the machine takes no event any more", raised(Refused, agc.key, "1"))
+    with example("keys", limit=10) as agc:
+        agc.defer()
+        agc.go(10)
+        judge("and so does one at its limit", True, raised(Refused, agc.key, "1") is not None)
+
+
 def try_until():
     """The sessions of examples/console/until and stop."""
     with example("timers", script=script_of("timers")) as agc:
@@ -115,7 +162,7 @@ def try_until():
     with example("division", limit=100, form="classic") as agc:
         judge("until the stop", Came(False, [Write(3, 0o10, 2)]), agc.until_write(0o11))
         judge("the stop", ("DivisionUndefined", 6), (agc.stop, agc.cycle))
-        judge("no event", "Stopped: the machine takes no event any more", raised(Refused, agc.key, "1"))
+        judge("no event", ("Stopped", "the machine takes no event any more"), refused(agc.key, "1"))
         agc.back(5)
         judge("back from the stop", (None, 5), (agc.stop, agc.cycle))
 
@@ -146,16 +193,20 @@ def try_writes():
 def try_faults():
     """What is refused, and consoles that have ended."""
     with example("keys") as agc:
-        judge("a fault", "BadChannel: a channel is octal, 0 to 777", raised(Refused, agc.channel, 0o1000))
-        no_writes = "BadChannel: only channels 5 to 777 octal show writes"
-        judge("a channel that shows no writes", no_writes, raised(Refused, agc.until_write, 4))
-        judge("and a loop over its writes", no_writes, raised(Refused, lambda: list(agc.writes(channel=4))))
-        ahead = "Ahead: the machine has not reached this cycle; go to C runs on to it"
-        judge("a cycle ahead", ahead, raised(Refused, agc.back, agc.cycle + 1))
-        judge("a key with another name", "BadEvent: unknown key; did you mean ENTR?", raised(Refused, agc.key, "ENTER"))
-        no_tables = "BadSpec: tables are seven octal numbers with commas between"
+        judge("a fault", ("BadChannel", "a channel is octal, 0 to 777"), refused(agc.channel, 0o1000))
+        no_writes = "BadChannel", "only channels 5 to 777 octal show writes"
+        judge("a channel that shows no writes", no_writes, refused(agc.until_write, 4))
+        judge("and a loop over its writes", no_writes, refused(lambda: list(agc.writes(channel=4))))
+        ahead = "Ahead", "the machine has not reached this cycle; go to C runs on to it"
+        judge("a cycle ahead", ahead, refused(agc.back, agc.cycle + 1))
+        judge("a key with another name", ("BadEvent", "unknown key; did you mean ENTR?"), refused(agc.key, "ENTER"))
+        judge("the form of a command", ("Usage", "usage: channel CCC"), refused(agc.say, "channel"))
+        no_tables = "tables are seven octal numbers with commas between"
         for spec in ("", "0100", "12,2000", "1,2,3"):
-            judge(f"tables at {spec!r}", no_tables, raised(Refused, agc.tables, spec)[:len(no_tables)])
+            name, sentence = refused(agc.tables, spec)
+            judge(f"tables at {spec!r}", ("BadSpec", no_tables), (name, sentence[:len(no_tables)]))
+        same = pickle.loads(pickle.dumps(client.Refused("a sentence: of two parts", "BadSpec")))
+        judge("a fault that was pickled", ("BadSpec", "a sentence: of two parts"), (same.name, str(same)))
         judge("no breakpoint was set", [], agc.breaks())
         judge("two lines are no command", "no command: 'go 1\\ngo 1'", raised(ValueError, agc.say, "go 1\ngo 1"))
         judge("nothing has changed", (0, 0), (agc.say("writes").cycle, agc.count_of_writes()))
@@ -218,13 +269,12 @@ def try_breakpoints():
         judge("those that are left", [lamp, write, order, interrupt], agc.breaks())
         for number in (2, 3, 5):
             agc.delete(number)
-        no_number = "NoBreakpoint: no breakpoint has this number; breaks lists them"
-        judge("a number that is gone", no_number, raised(Refused, agc.delete, 2))
+        no_number = "NoBreakpoint", "no breakpoint has this number; breaks lists them"
+        judge("a number that is gone", no_number, refused(agc.delete, 2))
         rest = [Write(170478, 0o10, 0o30003), Write(255811, 0o10, 0o30025), Write(300010, 0o11, 0o100)]
         judge("the lamp", (Hit(lamp, rest), 300012), (agc.continue_(), agc.cycle))
         judge("a number is given once", Breakpoint(6, "write 010"), agc.break_write(0o10))
-        wrong = raised(Refused, agc.break_interrupt, "T4")
-        judge("no such interrupt", "BadInterrupt", wrong.split(":")[0])
+        judge("no such interrupt", "BadInterrupt", refused(agc.break_interrupt, "T4")[0])
 
 
 def try_panel_breakpoints():
@@ -242,8 +292,7 @@ def try_panel_breakpoints():
         agc.delete(change)
         judge("the lamp lights", (Hit(lamp, [Write(300010, 0o11, 0o100)]), 300012), (agc.continue_(), agc.cycle))
         judge("both stay as they were", [lamp, one], agc.breaks())
-        wrong = raised(Refused, agc.break_panel, "R1 +1")
-        judge("no such line", "BadLine", wrong.split(":")[0])
+        judge("no such line", "BadLine", refused(agc.break_panel, "R1 +1")[0])
 
 
 def try_backwards():
@@ -273,11 +322,23 @@ def try_backwards():
             (agc.back_until_write, 4, "BadChannel"), (agc.back_until_cell, "START", "NotErasable"), (agc.back_until, "NOWHERE", "BadPlace"),
             (agc.back_until_interrupt, "T4", "BadInterrupt"), (agc.back_step, -1, "BadNumber"),
         ):
-            judge(f"a fault: {word}", fault, raised(Refused, call, word).split(":")[0])
+            judge(f"a fault: {word}", fault, refused(call, word)[0])
         judge("and nothing is done", 11, agc.cycle)
     with example("division", limit=100) as agc:
         agc.go(100)
         judge("back from a stop", (True, 3, None), (agc.back_until_write(0o10), agc.cycle, agc.stop))
+
+
+def try_ahead():
+    """boundaries that are shown and not taken; each order of the idle loop takes a cycle"""
+    rope = os.path.join(top, "examples", "study", "trace-key", "rope")
+    with Console(rope, program=console) as agc:
+        order = "4000 14000 TCF 4000 | A 000000 L 00000 Q 000000 Z 4001 EB 0 FB 00"
+        judge("the next two", [f"0 {order}", f"1 {order}"], agc.ahead(2))
+        judge("and the next one", ([f"0 {order}"], 0), (agc.ahead(), agc.cycle))
+        agc.key("1")
+        judge("after a key", ["0 - interrupt KEYRUPT1"], [line.split(" |")[0] for line in agc.ahead()])
+        judge("they come", agc.ahead(3), agc.step(3))
 
 
 def try_banks():
@@ -320,7 +381,7 @@ def try_odd_words():
     with example("keys") as agc:
         agc.go(10)
         judge("a key that has no bytes", "no command: 'key \\ud800'", raised(ValueError, agc.key, "\ud800"))
-        judge("a key beyond ASCII", "NotAscii: a line is ASCII only", raised(Refused, agc.key, "é"))
+        judge("a key beyond ASCII", ("NotAscii", "a line is ASCII only"), refused(agc.key, "é"))
         agc.key("4")
         judge("the session goes on", "10 key 4\n", agc.script())
     rope = os.path.join(top, "examples", "study", "trace-key", "rope")
@@ -402,14 +463,15 @@ def try_left_scripts():
             agc.pro(True)
             agc.go_to(50)
             agc.raise_interrupt(8)
-            agc.back(45)
+            judge("an event that is dropped", ["50 raise 8"], agc.back(45, dropped=True))
+            judge("nothing to drop", ([], []), (agc.back(45, dropped=True), agc.back(45)))
             agc.input(0o31, 7)
             agc.step(3)
             agc.raise_interrupt(8)
-            agc.back_until("4000")
+            judge("dropped by a search", ["48 raise 8"], agc.say("back list until 4000").lines)
             agc.pro(False)
             agc.back_step()  # to before this event, which stays
-            raised(Refused, agc.key, "ENTER")
+            refused(agc.key, "ENTER")
             told = agc.script()
         # the idle order takes one cycle, and so the machine stands at each of these cycles
         wanted = (
@@ -436,6 +498,102 @@ def try_save():
             judge("the saved script is the session's", agc.script(), again.script())
 
 
+@contextlib.contextmanager
+def full_disk():
+    """Within it this process writes to no file, as on a full disk, and finds no folder for temporary files."""
+    usual, before = tempfile.tempdir, resource.getrlimit(resource.RLIMIT_FSIZE)
+    tempfile.tempdir = "/no/such/folder"
+    resource.setrlimit(resource.RLIMIT_FSIZE, (0, before[1]))
+    try:
+        yield
+    finally:
+        tempfile.tempdir = usual
+        resource.setrlimit(resource.RLIMIT_FSIZE, before)
+
+
+def try_full_disk():
+    """a disk that is full: a session begins, and goes on; what cannot be written is said by the client's own errors"""
+    with tempfile.TemporaryDirectory() as folder:
+        name = os.path.join(folder, "saved")
+        with full_disk(), example("keys") as agc:
+            agc.go(10)
+            agc.key("4")
+            judge("the script is not saved", f"{name}: File too large", raised(NotSaved, agc.save, name))
+            judge("and no file is left", [], os.listdir(folder))
+            judge("nor one in no folder", "/no/such/file: No such file or directory", raised(NotSaved, agc.save, "/no/such/file"))
+            wanted = "no copy of the rope for another console: No such file or directory"
+            judge("another console", wanted, raised(Ended, agc.again))
+            judge("the session goes on", [Write(cycle=30, channel=0o10, value=0o44017)], agc.go(30))
+        agc.save(name)
+        with open(name) as saved:
+            judge("the next try saves", "10 key 4\n", saved.read())
+    usual = os.memfd_create
+    del os.memfd_create  # as on other systems
+    try:
+        with full_disk():
+            wanted = "there is no file for the console's messages: No such file or directory"
+            judge("without files in memory", wanted, raised(Ended, example, "keys"))
+        with example("keys") as agc:
+            judge("files on the disk", ([], 1), (agc.go(1), agc.cycle))
+    finally:
+        os.memfd_create = usual
+
+
+def try_deaths():
+    """consoles that cannot start, die or stand still"""
+    with tempfile.TemporaryDirectory() as folder:
+        plain = os.path.join(folder, "plain")
+        with open(plain, "w") as file:
+            file.write("no program\n")
+        for what, words, reason in (
+            ("a folder", folder, "Permission denied"), ("no program", plain, "Permission denied"),
+            ("nothing", os.path.join(folder, "none"), "No such file or directory"),
+            ("a way through a file", os.path.join(plain, "none"), "Not a directory"),
+        ):
+            judge(f"{what} as the console", f"{words}: {reason}", raised(Ended, example_of, words))
+    with example("keys") as agc:
+        agc.go(10)
+        agc.key("4")
+        os.kill(agc._process.pid, signal.SIGKILL)
+        judge("a console that was killed", ["the console ended with status -9"] * 2, [raised(Ended, agc.go, 1), raised(Ended, agc.panel)])
+        judge("its script", "10 key 4\n", agc.script())
+    agc = example("keys", detached=True)
+    threading.Timer(0.2, agc.kill).start()
+    began = time.monotonic()
+    judge("kill by another thread", "the console ended with status -9", raised(Ended, agc.step, 10**9))
+    agc.close()
+    judge("it was at once", True, time.monotonic() - began < 2)
+    usual, client.CLOSING = client.CLOSING, 0.2
+    try:
+        agc = example("keys")
+        os.kill(agc._process.pid, signal.SIGSTOP)
+        judge("a console that stands still is closed", None, raised(TimeoutError, lambda: timed(agc.close, seconds=10)))
+        judge("and gone", False, agc.alive)
+    finally:
+        client.CLOSING = usual
+
+
+def try_rope_changes():
+    """another console has the rope with which the session began, whatever its file has now"""
+    with tempfile.TemporaryDirectory() as folder:
+        rope = os.path.join(folder, "rope")
+        shutil.copy(os.path.join(top, "examples", "keys", "rope"), rope)
+        with Console(rope, program=console) as agc:
+            agc.key("4")
+            wanted = agc.go(40)
+            shutil.copy(os.path.join(top, "examples", "verbs", "rope"), rope)
+            with agc.again() as other:
+                other.key("4")
+                judge("the same writes", (wanted, rope), (other.go(40), other.rope))
+            os.unlink(rope)
+            with agc.again() as other:
+                other.key("4")
+                judge("without the file", (wanted, True), (other.go(40), wanted != []))
+    with tempfile.NamedTemporaryFile() as empty:
+        judge("an empty rope", "agc-console: rope: Empty", raised(Ended, lambda: Console(empty.name, program=console)))
+    judge("no rope", "agc-console: cannot read rope", raised(Ended, lambda: Console("/no/such/rope", program=console)))
+
+
 def try_versions():
     """a client that starts the console beside it looks at its version"""
     client = sys.modules[Console.__module__].__file__
@@ -455,12 +613,12 @@ def try_versions():
 
 
 for each in (
-    try_versions, try_keys, try_events, try_until, try_writes, try_names, try_breakpoints, try_panel_breakpoints,
-    try_backwards, try_banks, try_numbers, try_quiet, try_odd_words, try_children, try_left_scripts, try_save, try_faults,
+    try_versions, try_keys, try_events, try_deferred, try_until, try_writes, try_names, try_breakpoints,
+    try_panel_breakpoints, try_backwards, try_ahead, try_banks, try_numbers, try_quiet, try_odd_words, try_children, try_left_scripts, try_save, try_full_disk,
+    try_deaths, try_rope_changes, try_faults,
 ):
     try:
         each()
     except Exception as error:
         judge(each.__doc__, "no exception", repr(error))
-print(f"{passed} passed, {failed} failed")
-sys.exit(failed > 0)
+finish()

@@ -5,7 +5,8 @@ import random
 import re
 import subprocess
 
-from session import Session, judge
+from judge import judge
+from session import Session
 
 WORD = re.compile(r".*? [0-7]{5} ")
 ORDER = re.compile(r"\d+ ([^ -]\S*) (\S+(?: \+\d+)?)? +[0-7]{5} ")

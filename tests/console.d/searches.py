@@ -8,7 +8,8 @@ import subprocess
 import tempfile
 from typing import NamedTuple, Optional, Tuple
 
-from session import Session, judge, meaning
+from judge import judge
+from session import Session, meaning
 from walks import whole_place
 
 LINE = re.compile(r"(\d+) (\S+) (.*?)(?: > (\d{3}) (\d{5}))? \| A (\d{6}) L (\d{5}) Q (\d{6}) Z (\d{4}) EB (\d) FB (\d\d)")

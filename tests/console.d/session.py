@@ -1,23 +1,9 @@
-"""What the tries of the console share: counting cases, and a console to which commands are said one by one."""
+"""A console to which commands are said one by one."""
 
 import re
 import subprocess
-import sys
 
 END = re.compile(r"(?:at|stop (\w+) at) (\d+)$")
-
-passed = 0
-failed = 0
-
-
-def judge(what, wanted, came):
-    """A case, which is told where it is not as it should be."""
-    global passed, failed
-    if wanted == came:
-        passed += 1
-    else:
-        failed += 1
-        print(f"console: {what}: wanted {wanted!r:.600}, came {came!r:.600}", file=sys.stderr)
 
 
 class Session:

@@ -1,24 +1,25 @@
 """Random sessions of agc-console against the plain run of agc on the script that each tells, and odd uses of it.
 
-The words are: the programs agc, agc-study and agc-console, the top of the repository, a folder for files, and seeds.
+The words are seeds.
 """
 
 import os
+import pty
 import random
 import re
 import subprocess
 import sys
 import time
 
-import session as cases
+from judge import AGC, CONSOLE, STUDY, TOP, finish, judge, scratch_folder
 from places import try_places
 from reading import LAMPS, faults_of, wrong_line
 from searches import search
-from session import Session, judge, meaning
+from session import Session, meaning
 from walks import walk
 
-agc, study, console, top, scratch = sys.argv[1:6]
-seeds = [int(seed) for seed in sys.argv[6:]] or range(200)
+agc, study, console, top, scratch = AGC, STUDY, CONSOLE, TOP, scratch_folder()
+seeds = [int(seed) for seed in sys.argv[1:]] or range(200)
 
 LAST_CYCLE = 1_000_000_000_000
 TABLES = "0,100,4,0,100,0,200"
@@ -118,7 +119,8 @@ def a_break(dice):
 
 def a_way_back(dice, cycle):
     until = dice.choice(["interrupt", "panel", *(a_breakpoint(dice) for _ in range(6))])
-    return dice.choice([f"back {dice.randrange(cycle + 500)}", f"back until {until}", "back step", f"back step {dice.randrange(1, 60)}"])
+    way = dice.choice([str(dice.randrange(cycle + 500)), f"until {until}", "step", f"step {dice.randrange(1, 60)}"])
+    return dice.choice(["back ", "back list "]) + way
 
 
 def a_command(dice, cycle):
@@ -130,7 +132,7 @@ def a_command(dice, cycle):
     if kind == 4:
         return f"go to {dice.randrange(cycle + 3000)}"
     if kind == 5:
-        return dice.choice(["step", f"step {dice.randrange(60)}"])
+        return dice.choice(["step", "ahead", *(f"{name} {dice.randrange(60)}" for name in ("step", "ahead"))])
     if kind == 6:
         return f"until {a_place(dice)} within {dice.randrange(5000)}"
     if kind == 7:
@@ -160,6 +162,14 @@ def shown_in(command, lines):
     return [line[len("write ") :] for line in lines if line.startswith("write ")]
 
 
+def steps_as_shown(session, command, coming):
+    """Takes the steps that an `ahead` has shown, and returns their channel writes; both print the same lines."""
+    step = command.replace("ahead", "step")
+    lines = session.say(step)
+    judge(f"{command}, then {step}", lines, coming)
+    return shown_in(step, lines)
+
+
 class Told:
     """What a session should tell: its script, and the channel writes that its commands have told."""
 
@@ -183,13 +193,15 @@ class Told:
         self.given.append(event)
         judge(f"the script after {command}", self.script, self.asked())
 
-    def take_back(self, command):
+    def take_back(self, command, lines):
         """What was given at the cycle or later is dropped, after a search what was given later; so is what was written."""
         cycle = cycle_of(command, self.session.cycle)
-        cut = cycle if command.split()[1].isdigit() else cycle + 1
-        for event in self.given:
-            if event[0] >= cut:
-                self.script.remove(event)
+        cut = cycle if way_of(command).isdigit() else cycle + 1
+        dropped = [event for event in self.given if event[0] >= cut]
+        listed = dropped if command.startswith("back list ") else []
+        judge(f"what {command} lists", listed, [meaning(line) for line in lines])
+        for event in dropped:
+            self.script.remove(event)
         self.given = [event for event in self.given if event[0] < cut]
         judge(f"the script after {command}", self.script, self.asked())
         self.writes = [write for write in self.writes if int(write.split()[0]) < cycle]
@@ -197,8 +209,13 @@ class Told:
 
 def cycle_of(command, cycle):
     """The cycle that a `back C` names. The other ways back end at the one at which something began."""
-    named = command.split()[1]
+    named = way_of(command)
     return int(named) if named.isdigit() else cycle
+
+
+def way_of(command):
+    """The first word that says how a `back` goes: a cycle, `until` or `step`."""
+    return command.split()[2 if command.startswith("back list ") else 1]
 
 
 def try_wrong_line(session, line):
@@ -232,7 +249,10 @@ def goes_on(session, dice, limit):
         elif command.startswith(GIVEN):
             told.take_event(command, before[0])
         elif command.startswith("back "):
-            told.take_back(command)
+            told.take_back(command, lines)
+        elif command.startswith("ahead"):
+            judge(f"{command} changes nothing", before, (session.cycle, session.stop))
+            told.writes += steps_as_shown(session, command, lines)
         else:
             told.writes += shown_in(command, lines)
     # what was given last has happened, and no boundary is half a cycle's
@@ -299,7 +319,7 @@ def try_odd_uses():
     )
     judge(
         "a byte 0",
-        (0, b"error: UnknownCommand: help lists the commands\nat 1\n", b""),
+        (0, b"error: UnknownCommand: unknown command; help lists the commands\nat 1\n", b""),
         ended(f"printf '\\0\\ngo 1\\n' | {words}"),
     )
     unread = b"agc-console: cannot read commands\n"
@@ -312,6 +332,39 @@ def try_odd_uses():
         (0, b"at 1000000\n", b""),
         ended(f"ulimit -v 65536; yes 'go 1' | head -n 1000000 | {words} | tail -n 1"),
     )
+
+
+def try_terminal():
+    """On a terminal an error has no name, and all else is as in a pipe."""
+    rope = os.path.join(top, "examples", "keys", "rope")
+    commands = b"go 3\nfly\nsave\nchannel 1000\nback 4\nback until 4100\nkey 4\nscript\n"
+    terminal, output = pty.openpty()
+    subprocess.run([console, rope, os.devnull], input=commands, stdout=output)
+    os.close(output)
+    shown = b""
+    while part := read_from(terminal):
+        shown += part
+    os.close(terminal)
+    wanted = [
+        "at 3",
+        "error: unknown command; help lists the commands",
+        "error: usage: save FILE",
+        "error: a channel is octal, 0 to 777",
+        "error: the machine has not reached this cycle; go to C runs on to it",
+        "error: no boundary before now hits it",
+        "at 3",
+        "3 key 4",
+        "at 3",
+    ]
+    judge("a session on a terminal", wanted, shown.decode().splitlines())
+
+
+def read_from(terminal):
+    """Returns what a terminal shows next, nothing after its last program has ended."""
+    try:
+        return os.read(terminal, 4096)
+    except OSError:
+        return b""
 
 
 def try_save():
@@ -420,16 +473,17 @@ for each in seeds:
         try_seed(each)
         dice = random.Random(-1 - each)
         walk(console, study, files_of(dice, each)[0], dice, an_event, scratch)
-        search(console, study, *files_of(dice, each), dice, an_event, scratch)
+        rope, script = files_of(dice, each)
+        search(console, study, rope, script, dice, an_event, scratch)
     except (EOFError, IndexError, subprocess.CalledProcessError) as error:
         judge(f"seed {each}", "answers", repr(error))
-if len(sys.argv) == 6:
+if len(sys.argv) == 1:
     try_odd_uses()
+    try_terminal()
     try_save()
     try_full_script()
     try_full_breakpoints()
     try_hidden_minus()
     try_places(console, study, top)
     try_an_hour_back()
-print(f"{cases.passed} passed, {cases.failed} failed")
-sys.exit(cases.failed > 0)
+finish()

@@ -6,7 +6,8 @@ import re
 import subprocess
 from typing import NamedTuple, Optional
 
-from session import Session, judge, meaning
+from judge import judge
+from session import Session, meaning
 
 LINE = re.compile(r"(\d+) (\S+) (.*?)(?: > (\d{3} \d{5}))? \| A \d{6} L (\d{5}) ")
 

@@ -1,4 +1,4 @@
-"""Tries of examples/descent. The words are: the programs agc, agc-console and agc-study, and a folder for files.
+"""Tries of examples/descent. The words are the names of tries.
 
 What is expected stands here as numbers that were worked out from the formulas in the example's README, and not with the
 program. A tolerance is what the scaling leaves open.
@@ -14,16 +14,20 @@ import re
 import subprocess
 import sys
 
+import assembler
 import craft as example
+import exact
 from agc import Console
+from judge import AGC, CONSOLE, STUDY, attempt, finish, judge, near, scratch_folder
 
-agc, console, study, scratch = sys.argv[1:5]
+agc, console, study = AGC, CONSOLE, STUDY
+scratch = scratch_folder()
 folder = os.path.dirname(os.path.realpath(example.__file__))
 HOUR = int(os.environ.get("HOUR", 307_200_000))
 SECOND = example.SECOND
-FLIGHTS = 30
-passed = 0
-failed = 0
+FLIGHTS = int(os.environ.get("FLIGHTS", 36))
+FORCED = int(os.environ.get("FORCED", 4))
+JOBS = int(os.environ.get("JOBS", os.cpu_count() or 1))
 
 
 def names():
@@ -34,21 +38,7 @@ def names():
 
 PLACES = names()
 SPEC = "0,200,10,0,340,0,350"
-PROGRAM = {}
-
-
-def judge(what, wanted, came):
-    """A case, which is shown if it is not as it should be."""
-    global passed, failed
-    if wanted == came:
-        passed += 1
-    else:
-        failed += 1
-        print(f"descent: {what}: wanted {wanted!r:.400}, came {came!r:.400}", file=sys.stderr)
-
-
-def near(what, wanted, came, tolerance):
-    judge(f"{what}: {came:.4f} is within {tolerance:.4f} of {wanted:.4f}", True, abs(wanted - came) <= tolerance)
+PROGRAM: dict = {}
 
 
 def signed(word):
@@ -83,6 +73,12 @@ class Machine(Console):
         for beyond, word in enumerate(example.double(value)):
             self.put(name, word, beyond)
 
+    def radar(self, *words):
+        """Has the landing radar's words come."""
+        for beyond, word in enumerate(words):
+            self.put("RADWORD", word, beyond)
+        self.put("RADGOT", len(words))
+
     def seconds(self, seconds):
         return self.go(round(seconds * SECOND))
 
@@ -111,22 +107,66 @@ def ran(*words):
 
 
 def start_of(seed):
+    """The start of a flight: of six seeds two are near high gate, one hovers above the site, and three are anywhere in the
+    range."""
     noise = random.Random(1000 + seed)
-    return [noise.uniform(*span) for span in ((2200, 2400), (7000, 8000), (142, 158), (40, 50))]
+    if seed % 6 < 2:
+        return [noise.uniform(*span) for span in ((2200, 2400), (7000, 8000), (142, 158), (40, 50))]
+    if seed % 6 == 2:
+        return [noise.uniform(30, 1000), 0.0, 0.0, 0.0]
+    while True:
+        start = [noise.uniform(*example.RANGES[name]) for name in ("height", "way", "forward", "down")]
+        if start[0] >= example.height_to_stop(start[3]):
+            return start
+
+
+def integrated(start, seed, written, seconds):
+    """Integrates the craft's equations by itself, from the channel writes and their cycles alone: midpoint steps of five
+    milliseconds, Python's sine and cosine, angles in degrees. What is written acts from the next hundredth of a second on.
+    Returns the speeds up and forward, and the tilt, after some seconds."""
+    born = example.Craft(*start, seed)
+    up, forward, mass = born.up, born.forward, born.mass
+    tilt, rate, thrust = math.degrees(born.tilt), math.degrees(born.turning), 25500.0
+    jets, wanted, engine, flying, dt = 0, 25500.0, False, False, 0.005
+    coming = iter(written)
+    write = next(coming, None)
+    for half in range(round(seconds / dt)):
+        while half % 2 == 0 and write is not None and write.cycle < (half // 2 + 1) * 2560 // 3:
+            if write.channel == 0o5:
+                jets = (write.value & 1) - (write.value >> 1 & 1)
+            elif write.channel == 0o42:
+                wanted = 4.0 * write.value
+            elif write.channel == 0o11:
+                engine = write.value & 0o10000 != 0
+                flying = flying or engine
+            write = next(coming, None)
+        if not flying:
+            continue
+        aim = wanted if engine and mass > 6500 else 0.0
+        after = aim + (thrust - aim) * math.exp(-dt / 0.2)
+        push, thrust = (thrust + after) / 2 / mass, after
+        mass -= push * mass / 3050 * dt
+        angle = math.radians(tilt + rate * dt / 2)
+        tilt += (rate + 4.0 * jets * dt / 2) * dt
+        rate += 4.0 * jets * dt
+        forward += push * math.sin(angle) * dt
+        up += (push * math.cos(angle) - 1.62) * dt
+    return up, forward, tilt
 
 
 def flight(seed):
     """A flight and its replay: a line for the table, and what was not as it should be."""
     height, way, forward, down = start_of(seed)
     craft = example.Craft(height, way, forward, down, seed)
+    near_gate = seed % 6 < 2
     script = os.path.join(scratch, f"flight-{seed}")
-    writes, alarms = [], 0
+    writes = []
     with Machine() as machine:
         for now, written in example.fly(machine, craft):
             writes += written
         writes += machine.go(1000)
         panel, tables = machine.panel(), machine.tables(SPEC)
-        alarms = machine.word("FAILREG")
+        alarm = machine.word("FAILREG")
         text = machine.script()
         with open(script, "w") as file:
             file.write(text)
@@ -136,22 +176,34 @@ def flight(seed):
     wanted = [" ".join(pair) for pair in panel.items()]
     wrong = []
     up, forward_then, tilt, miss = craft.touched or (-99, 99, 99, 99)
+    aborted = not craft.touched and panel["PROG"] == "70" and alarm == 0o3004 and craft.up >= 30 and not near_gate
+    late = craft.mass - example.DRY < 400 + 0.015 * example.LOADED  # of fuel: the alarm of low fuel may have come
+    other = integrated((height, way, forward, down), seed, writes, now - 3)
     for what, right in (
-        ("on the ground", craft.touched is not None),
-        ("down below 1.5 m/s", -1.5 < up <= 0),
-        ("forward below 0.6 m/s", abs(forward_then) < 0.6),
-        ("within 3 degrees", abs(tilt) < 3),
-        ("in P68", panel["PROG"] == "68"),
-        ("engine off", not craft.engine),
+        ("on the ground, or aborted by name", craft.touched is not None or aborted),
+        ("down below 1.5 m/s", aborted or -1.5 < up <= 0),
+        ("forward below 0.6 m/s", aborted or abs(forward_then) < 0.6),
+        ("within 3 degrees", aborted or abs(tilt) < 3),
+        ("in P68", aborted or panel["PROG"] == "68"),
+        ("at the site from high gate", not near_gate or abs(miss) < 40),
+        ("engine off", aborted or not craft.engine),
         ("fuel left", craft.mass > example.DRY),
-        ("no alarm", alarms == 0),
-        ("fewer than 40,000 events", events < 40000),
+        ("no alarm from high gate", alarm == 0 or not near_gate),
+        (
+            "a reason for an alarm",
+            aborted or alarm == 0 or alarm == 0o3003 and (height > 110 or forward > 20) or alarm == 0o3004 and late,
+        ),
+        ("the other integration, up", aborted or abs(other[0] - up) < 0.08),
+        ("the other integration, forward", aborted or abs(other[1] - forward_then) < 0.08),
+        ("the other integration, tilt", aborted or abs(other[2] - tilt) < 0.15),
+        ("fewer than 20,000 events from high gate", not near_gate or events < 20000),
+        ("fewer than 60,000 events", events < 60000),
         ("the panel of agc", log[:8] == wanted),
         ("the count of writes of agc", log[8].endswith(f" WRITES {len(writes)}")),
         ("the writes of agc", log[9 : 9 + len(writes)] == [f"{w.cycle} {w.channel:03o} {w.value:05o}" for w in writes]),
         ("the tables of agc", log[9 + len(writes) :] == tables),
     ):
-        wrong.append((f"flight {seed}: {what}", right))
+        wrong.append((f"flight {seed} from {height:.0f} {way:.0f} {forward:.1f} {down:.1f}: {what}", right))
     line = (
         f"{seed:4d} {height:7.0f} {way:6.0f} {forward:8.1f} {down:5.1f} {now:8.1f} {up:7.2f} {forward_then:8.2f}"
         f" {tilt:6.2f} {miss:6.1f} {craft.mass - example.DRY:6.0f} {events:7d}  {panel['PROG']}"
@@ -205,7 +257,43 @@ def try_instrument():
     up, forward, tilt, _ = other.touched
     judge("the flight by ticks lands", True, up > -1.5 and abs(forward) < 0.6 and abs(tilt) < 3)
     view = example.Instrument(other).view()
-    judge("the page shows the altitude", ["Altitude", f"{other.height:.1f} m"], view["rows"][0])
+    judge("the page shows the altitude", ["Altitude", f"{example.unsigned_zero(other.height, 1):.1f} m"], view["rows"][0])
+
+
+def clicked(craft, clicks):
+    """Flies the craft by its instrument's ticks, and clicks a button before each of some ticks, which goes up before the next.
+    Returns the script and the machine's last words of program, way and rate."""
+    instrument = example.Instrument(craft)
+    keys = {round(100 * second): key for second, key in example.APPROACH.items()}
+    with Machine() as machine:
+        for step in range(1, max(clicks) + 200):
+            machine.go_to(step * 2560 // 3)
+            for name, down in ((clicks.get(step), True), (clicks.get(step - 1), False)):
+                if name:
+                    instrument.control(name, down)
+            if step in clicks:
+                instrument.load(instrument.save())  # a click that waits is not lost
+            instrument.tick(machine, machine.cycle)
+            if step in keys:
+                example.press(machine, keys[step])
+            if step - 20 in keys and keys[step - 20] == "PRO":
+                machine.pro(False)
+        return machine.script(), machine.panel()["PROG"], -machine.both("XN"), machine.word("RODCMD")
+
+
+def try_buttons():
+    """The page's buttons click the switches."""
+    script, program, _, rate = clicked(example.Craft(300.0, 0.0, 0.0, 0.0), {1500: "rate-down", 1800: "rate-up", 1801: "rate-up"})
+    words = [line.split()[1:] for line in script.splitlines()]
+    judge("the switch", 3, words.count(["raise", "6"]))
+    judge("it is released", 3, words.count(["input", "16", "00000"]))
+    judge("P66", "66", program)
+    _, _, _, before = clicked(example.Craft(300.0, 0.0, 0.0, 0.0), {1500: "rate-down"})
+    judge("two clicks up after one down", 6, rate - before)
+    script, program, way, _ = clicked(example.Craft(), {2000: "farther", 2001: "nearer", 2050: "farther"})
+    _, _, without, _ = clicked(example.Craft(), {2050: "again"})
+    judge("P64", "64", program)
+    near("the site is farther by a 32nd of the way", 33 / 32 * without, way, 15)
 
 
 # guidance and scaling, beside rows worked by hand
@@ -223,6 +311,25 @@ def try_mistakes():
         (1, ["--save", nowhere], f"craft: cannot write {nowhere}: No such file or directory"),
         (1, ["--rope", nowhere], "craft: agc-console: cannot read rope"),
         (2, ["--height", "nan"], "craft.py: error: argument --height: nan is not finite"),
+        (2, ["--height", "20000"], "craft.py: error: argument --height: 20000 is outside 30 to 4000"),
+        (2, ["--height", "-5"], "craft.py: error: argument --height: -5 is outside 30 to 4000"),
+        (2, ["--way", "20000"], "craft.py: error: argument --way: 20000 is outside 0 to 15000"),
+        (2, ["--forward", "300"], "craft.py: error: argument --forward: 300 is outside -20 to 180"),
+        (2, ["--down", "101"], "craft.py: error: argument --down: 101 is outside -20 to 100"),
+        (2, ["--braking", "--way", "7500"], "craft.py: error: argument --way: 7500 is outside 9000 to 15500"),
+        (2, ["--seed", "-1"], "craft.py: error: argument --seed: -1 is outside 0 to 2147483645"),
+        # 20 and 40 times ten, and 40 squared by 4
+        (
+            2,
+            ["--height", "800", "--down", "40"],
+            "craft.py: error: argument --down: from 800 m nobody stops 40 m/s: this needs 820 m",
+        ),
+        (
+            2,
+            ["--fault", "wing:3"],
+            "craft.py: error: argument --fault: wing:3 names no fault: PART:SECOND[:SECONDS], as radar:60; "
+            "parts are radar, forward-jet, back-jet, engine",
+        ),
         (2, ["--every", "inf"], "craft.py: error: argument --every: inf is not finite"),
         (2, ["--key", "60:PROG"], "craft.py: error: argument --key: 60:PROG names no key: SECOND:KEY, as 60:VERB"),
         (2, ["--key", "VERB"], "craft.py: error: argument --key: VERB names no key: SECOND:KEY, as 60:VERB"),
@@ -234,12 +341,30 @@ def try_mistakes():
         lines = flight.stderr.splitlines() or [""]
         judge(f"craft.py {' '.join(words)}", (status, "", told), (flight.returncode, flight.stdout, lines[-1]))
     judge("the file is as it was", "0 key 1\n", read(kept))
+    dying = os.path.join(scratch, "dying")
+    with open(dying, "w") as file:
+        file.write(
+            "#!/usr/bin/env bash\n"
+            f'while read -r line && ((lines++ < 9000)); do echo "$line"; done | "{console}" "$@" && kill -KILL $$\n'
+        )
+    os.chmod(dying, 0o755)
+    saved = os.path.join(scratch, "saved")
+    flight = ran(sys.executable, "-B", example.__file__, "--program", dying, "--save", saved)
+    judge("the console dies", (1, "craft: the console ended with status -9\n"), (flight.returncode, flight.stderr))
+    judge("the script is saved as far as it came", True, 3000 < len(read(saved).splitlines()) < 9000)
+    words = [sys.executable, "-B", example.__file__, "--program", console]
+    full = subprocess.run([*words, "--save", "/dev/full"], stdout=subprocess.DEVNULL, stderr=subprocess.PIPE, text=True)
+    told = "craft: cannot write /dev/full: No space left on device\n"
+    judge("the disk is full", (1, told), (full.returncode, full.stderr))
+    with open("/dev/full", "w") as nowhere:
+        full = subprocess.run(words, stdout=nowhere, stderr=subprocess.PIPE, text=True)
+    judge("the table has no place", (1, "craft: cannot print: No space left on device\n"), (full.returncode, full.stderr))
     full = os.path.join(scratch, "full")
     with open(full, "w") as file:
         file.write("0 input 30 37777\n" * 65536)
     flight = ran(sys.executable, "-B", example.__file__, "--program", console, "--script", full)
     lines = flight.stderr.splitlines() or [""]
-    judge("a full script", (0, True), (flight.returncode, lines[-1].startswith("craft: the flight ends at 0.00 s: TooMany")))
+    judge("a full script", (0, True), (flight.returncode, lines[-1].startswith("craft: the flight ends at 0.00 s: a script has at most 65536 events")))
 
 
 def place(machine, way, height, forward, up):
@@ -295,13 +420,16 @@ def try_guidance():
             near(f"{name}: tilt", tilt, machine.word("THETAD") / example.DEGREE, math.degrees(error / wanted) + 0.05)
             near(f"{name}: thrust", thrust, 4 * machine.word("FCMD"), state[5] * error + 32)
             judge(f"{name}: the throttle's channel", machine.word("FCMD"), machine.channel(example.THROTTLE))
-    # P66 at 20 m: the rate is to be -(0.8 + 20/32) = -1.425; (-1.425 + 3)/1.6 = 0.9844 up, -1/8 = -0.125 forward; with
+    # P65 at 20 m: the rate is to be -(0.8 + 20/32) = -1.425; (-1.425 + 3)/1.6 = 0.9844 up, -1/8 = -0.125 forward; with
     # gravity 2.6044; the root of 6.7828 + 0.0156 is 2.6074, the tangent -0.0480
+    with guided(40, 20, 1, -3, 2, 7600, 65) as machine:
+        near("P65: up", 0.9844, machine.word("AZ") / 1024, 0.015)
+        near("P65: forward", -0.125, machine.word("AX") / 1024, 0.005)
+        near("P65: tilt", -2.75, machine.word("THETAD") / example.DEGREE, 0.1)
+        near("P65: thrust", 19816, 4 * machine.word("FCMD"), 150)
+    # P66 with a rate of zero: 3/1.6 = 1.875 up
     with guided(40, 20, 1, -3, 2, 7600, 66) as machine:
-        near("P66: up", 0.9844, machine.word("AZ") / 1024, 0.015)
-        near("P66: forward", -0.125, machine.word("AX") / 1024, 0.005)
-        near("P66: tilt", -2.75, machine.word("THETAD") / example.DEGREE, 0.1)
-        near("P66: thrust", 19816, 4 * machine.word("FCMD"), 150)
+        near("P66: up", 1.875, machine.word("AZ") / 1024, 0.015)
 
 
 def ahead(way, height, forward, up, mass):
@@ -327,7 +455,7 @@ def try_scaling():
         machine.put("DELVZ", 41)
         machine.put("DELT", 100)
         machine.put("FCMD", 5000)  # 20,000 N
-        machine.input(example.RADAR, 5940)  # 1485 m
+        machine.radar(5940)  # 1485 m
         machine.until(PLACES["GUIDE"])
         # -32 * 0.0585 = -1.872; 41 * 0.0585 - 1.62 = 0.7785
         forward, up = 98.128, -29.2215
@@ -347,7 +475,7 @@ def try_scaling():
         machine.put_both("VZ", 64 * -30)
         machine.put("DELVZ", 0)
         machine.put("DELT", 100)
-        machine.input(example.RADAR, 5000)
+        machine.radar(5000)
         machine.until(PLACES["GUIDE"])
         near("a radar that is far off", 1500 - 30.81, machine.both("ZN"), 0.01)
     # the way ahead, as `ahead` flies it
@@ -356,11 +484,75 @@ def try_scaling():
         near("the mass at low gate", ahead(7500, 2300, 150, -45, 8500), machine.word("PMASS"), 20)
 
 
+def after_radar(*words):
+    """A second of SERVICER from 100 m/s forward, -30 m/s up and a tilt of -38 degrees, without pulses forward, with 28 up and
+    these words of the radar. Returns both speeds, the difference of altitudes, and the lamps."""
+    with guided(5000, 1500, 100, -30, -38, 8400) as machine:
+        machine.until(PLACES["SERVICER"], within=200000)
+        place(machine, 5000, 1500, 100, -30)
+        machine.put("DELVX", 0)
+        machine.put("DELVZ", 28)
+        machine.put("DELT", 100)
+        machine.radar(*words)
+        machine.until(PLACES["GUIDE"])
+        found = machine.both("VX") / 64, machine.both("VZ") / 64, machine.word("DHM")
+        machine.put("AVEGFLG", 0)
+        machine.seconds(0.5)
+        return *found, [lamp for lamp in ("ALT", "VEL") if lamp in machine.shown().split()]
+
+
+def try_radar():
+    """The radar's speeds, along the craft's axes: forward and upward. Pulses and gravity leave 100 m/s forward and, by
+    28 * 0.0585 - 1.62 = 0.018, -29.982 up, at 1470.009 m. The sine of -38 degrees is -0.61566, the cosine 0.78801.
+
+    The craft flies 102 m/s forward and -29 up: 102 * 0.78801 - 29 * 0.61566 = 62.523 along its forward axis, and
+    -102 * 0.61566 - 29 * 0.78801 = -85.650 along its upward axis. The state's -85.192 along the upward axis gets a quarter
+    of -0.458, -0.1144: 0.0704 forward and -0.0901 up. Its 60.342 along the forward axis then gets a quarter of 2.181,
+    0.5451: 0.4296 forward and 0.3356 up."""
+    forward, up, _, lamps = after_radar(5880, round(64 * 62.523), round(64 * -85.650))
+    near("both speeds: forward", 100.5000, forward, 0.02)
+    near("both speeds: up", -29.7365, up, 0.02)
+    judge("both speeds: the lamps", [], lamps)
+    # 80 m/s along the forward axis are 19.66 too many; 3 and an eighth of 80 are 13. The other axis counts all the same.
+    forward, up, _, lamps = after_radar(5880, 64 * 80, round(64 * -85.650))
+    near("a speed that is far off: forward", 100.0704, forward, 0.02)
+    near("a speed that is far off: up", -30.0721, up, 0.02)
+    judge("a speed that is far off: the lamps", ["VEL"], lamps)
+    forward, up, _, lamps = after_radar(5880)
+    near("altitude alone: forward", 100, forward, 0.001)
+    near("altitude alone: up", -29.982, up, 0.015)  # a quarter metre of the altitude brings 0.01 m/s
+    judge("altitude alone: the lamps", ["VEL"], lamps)
+    judge("no radar: the lamps", ["ALT", "VEL"], after_radar()[3])
+    judge("an altitude that is far off: the lamps", ["ALT"], after_radar(5000, round(64 * 62.523), round(64 * -85.650))[3])
+
+
+def try_wrong_speeds():
+    """The load's speeds are wrong; the radar's words correct them within ten seconds."""
+    seed = max(range(1, 40), key=lambda seed: abs(example.Craft(seed=seed).known_forward - 150))
+    craft = example.Craft(seed=seed)
+    judge("a load that is more than 1.5 m/s off", True, 1.5 < abs(craft.known_forward - 150) <= 2)
+    errors, last = [], None
+    with Machine() as machine:
+        for now, _ in example.fly(machine, craft, seconds=25):
+            state = machine.word("VX"), machine.word("VZ")
+            if craft.flying and state != last:
+                errors.append((now, state[0] / 64 - craft.forward, state[1] / 64 - craft.up))
+            last = state
+    judge("SERVICER ran each second", True, len(errors) > 15)
+    # some hundredths of a second pass from the accelerometers to the state: at 2 m/s/s some 0.05 m/s
+    settled = [error for error in errors if error[0] > errors[0][0] + 12]
+    near("forward after ten seconds", 0, max(abs(forward) for _, forward, _ in settled), 0.4)
+    near("up after ten seconds", 0, max(abs(up) for _, _, up in settled), 0.4)
+
+
 DISPLAYS = [
     # noun, the registers of the state 7500 m, 2300 m, 150 m/s, -45 m/s, 8500 kg
     ("6 0", ("+01500", "-00450", "+02300")),
     ("6 1", ("+01461", "-07500", "+08500")),
-    ("6 4", ("+01461", "-00450", "+02300")),
+    # the site is atan(2300/7500) = 17.05 degrees below the horizon, the craft's forward axis 40 above
+    ("6 4", ("+00057", "-00450", "+02300")),
+    ("6 9", ("+00000", "-07500", "+01461")),
+    ("4 7", ("+08500", None, None)),
     ("6 6", ("+00000", "-00450", "+02300")),
     ("6 8", (None, "+01461", None)),
 ]
@@ -379,6 +571,108 @@ def try_displays():
             for register, text in zip(("R1", "R2", "R3"), wanted):
                 if text:
                     judge(f"noun {noun}, {register}", text, panel[register])
+
+
+def try_slant_range():
+    """Verb 16 has the slant range of noun 68 computed: the root of 7500 and 2300, both squared, is 7844.7."""
+    with guided(7500, 2300, 150, -45, -40, 8500) as machine:
+        machine.put("AVEGFLG", 0)
+        machine.press("VERB 1 6 NOUN 6 8 ENTR", 0.1)
+        machine.seconds(1.5)
+        near("the slant range", 7844.7, int(machine.panel()["R1"]), 1.5)
+
+
+def try_redesignation():
+    """The crew moves the site by 300 m in P64, forward or back: there the craft lands."""
+    for sign, wanted in (("+", -300), ("-", 300)):
+        craft = example.Craft()
+        keys = dict(example.APPROACH)
+        for place, key in enumerate(f"VERB 2 1 NOUN 6 9 ENTR {sign} 0 0 3 0 0 ENTR".split()):
+            keys[60 + 0.1 * place] = key
+        with Machine() as machine:
+            for _ in example.fly(machine, craft, keys):
+                pass
+        judge(f"{sign}300 m: it lands", True, craft.landed())
+        near(f"{sign}300 m: what was to go to the first site", wanted, craft.touched[3], 15)
+
+
+def try_hand_controller():
+    """Three clicks of the hand controller in P64 move the site by 3/32 of the way to it, less or more."""
+    for key, sign in (("ACA+", -1), ("ACA-", 1)):
+        craft = example.Craft()
+        keys = {**example.APPROACH, 60.0: key, 60.1: key, 60.2: key}
+        way = None
+        with Machine() as machine:
+            for now, _ in example.fly(machine, craft, keys):
+                if way is None and now > 60.25:
+                    way = craft.way
+        judge(f"{key}: it lands", True, craft.landed())
+        near(f"{key}: what was to go to the first site", sign * 3 / 32 * way, craft.touched[3], 15)
+
+
+def try_rate_switch():
+    """In P65 a click of the switch for the rate of descent begins P66, and each is 0.3 m/s; in P64 it does nothing."""
+    craft = example.Craft(300.0, 0.0, 0.0, 0.0)
+    keys = {**example.APPROACH, 30.0: "ROD-", 40.0: "ROD+", 40.5: "ROD+", 41.0: "ROD+", 50.0: "ROD-"}
+    shown = {}
+    with Machine() as machine:
+        for now, _ in example.fly(machine, craft, keys, seconds=60):
+            for when in (29.9, 32.0, 39.9, 49.9, 59.9):
+                if abs(now - when) < 0.001:
+                    shown[when] = machine.panel()["PROG"], machine.word("RODCMD") / 10, craft.up
+    judge("before the first click", "65", shown[29.9][0])
+    judge("P66 after it", "66", shown[32.0][0])
+    near("a click down", shown[29.9][2] - 0.3, shown[32.0][1], 0.2)
+    near("the craft's rate", shown[39.9][1], shown[39.9][2], 0.15)
+    near("three clicks up", 0.9, shown[49.9][1] - shown[39.9][1], 0.01)
+    near("the craft's rate then", shown[49.9][1], shown[49.9][2], 0.15)
+    near("another click down", -0.3, shown[59.9][1] - shown[49.9][1], 0.01)
+    keys = {**example.APPROACH, 20.0: "ROD-", 21.0: "ROD+"}
+    with Machine() as machine:
+        for _ in example.fly(machine, example.Craft(), keys, seconds=25):
+            pass
+        judge("clicks in P64 do nothing", "64", machine.panel()["PROG"])
+
+
+def braked(seed):
+    """A flight by P63: whether it landed, its programs, the last alarm, the way that was left, and its events."""
+    chance = random.Random(4000 + seed)
+    start = example.BEFORE_HIGH_GATE
+    if seed:
+        start = {name: chance.uniform(*span) for name, span in example.BRAKING_RANGES.items()}
+    craft = example.Craft(**start, seed=seed)
+    programs = []
+    with Machine() as machine:
+        for now, _ in example.fly(machine, craft, example.BRAKING):
+            if abs(now % 1) < 0.005 and machine.panel()["PROG"] not in programs[-1:]:
+                programs.append(machine.panel()["PROG"])
+        programs.append(machine.panel()["PROG"])
+        events = len(machine.script().splitlines())
+        return craft.landed(), programs, machine.word("FAILREG", 2), (craft.touched or [99999])[-1], events
+
+
+def try_braking(flights):
+    """P63 flies to high gate, P64 on from there. From 15 km, the flight ends at the site; from elsewhere it may be beside it."""
+    for seed, (landed_well, programs, alarm, miss, events) in enumerate(flights.get()):
+        judge(f"braking {seed}: it lands", (True, "68"), (landed_well, programs[-1]))
+        judge(f"braking {seed}: 50,000 events at most", True, events <= 50000)
+        judge(f"braking {seed}: the alarm", True, alarm == 0 or alarm == 0o3003 and seed > 0)
+        if seed == 0:
+            judge("P63 and P64", ["63", "64", "65"], [each for each in programs if each in ("63", "64", "65")])
+            near("at the site", 0, miss, 40)
+
+
+def try_abort_key():
+    """V37E70E: the craft climbs, and the flight ends."""
+    craft = example.Craft()
+    keys = dict(example.APPROACH)
+    for place, key in enumerate("VERB 3 7 ENTR 7 0 ENTR".split()):
+        keys[100 + 0.1 * place] = key
+    with Machine() as machine:
+        for _ in example.fly(machine, craft, keys):
+            pass
+        judge("P70 without an alarm", ("70", 0), (machine.panel()["PROG"], machine.word("FAILREG")))
+    judge("it climbs", True, craft.touched is None and craft.up >= 30)
 
 
 # the keyboard
@@ -554,7 +848,7 @@ def alarm_flight(which):
         for now, written in example.fly(machine, craft, keys):
             if lit is None and any(w.channel == 0o10 and w.value >> 11 == 12 and w.value & 0o400 for w in written):
                 lit = now
-            for when in (59.0, 69.0, 71.5, 74.0):
+            for when in (59.0, 75.0, 77.0, 79.0):
                 if abs(now - when) < 0.001:
                     seen[when] = machine.shown()
         codes = [machine.word("FAILREG", n) for n in range(3)]
@@ -593,6 +887,17 @@ def sets_in_use(script, begin, end):
     return most
 
 
+def servicers_left(script):
+    """The VAC areas in use at the first two alarms of a flight."""
+    left = []
+    with Machine(script) as machine:
+        while len(left) < 2:
+            machine.until(PLACES["BAILOUT"], within=10_000_000)
+            left.append(sum(machine.word(f"VAC{area}USE") == 0 for area in range(1, 6)))
+            machine.go(100)
+    return tuple(left)
+
+
 def idle_of(found):
     """The cycles of the idle job's three orders."""
     place = int(PLACES["IDLE"].split(",")[1], 8)
@@ -609,7 +914,7 @@ def alarmed(seed):
     keys = dict(example.APPROACH)
     for place, key in enumerate("VERB 1 6 NOUN 6 8 ENTR".split()):
         keys[begin - 4 + 0.25 * place] = key
-    craft = example.Craft(*start_of(seed), seed)
+    craft = example.Craft(*start_of(6 * seed), seed)
     with Machine(pulses) as machine:
         for _ in example.fly(machine, craft, keys):
             pass
@@ -626,10 +931,10 @@ def try_1202(flights):
     (seen, lit, codes, touched, end, script, cycle), calm = flights.get()
     judge("before: noun 68 by verb 16", "64 16 68", seen[59.0][:8])
     judge("PROG lights within 3 seconds", True, lit is not None and 60 < lit < 63)
-    judge("V05N09: one alarm", "64 05 09 _01202 _00000 _01202 off PROG", seen[69.0].replace(" KEY REL", ""))
-    judge("RSET", False, "PROG" in seen[71.5].split())
-    judge("KEY REL: guidance goes on", "64 06 64", seen[74.0][:8])
-    judge("the codes after RSET", [0, 0, 0o1202], codes)
+    judge("V05N09: two alarms", "64 05 09 _01202 _01201 _01201 off PROG", seen[75.0].replace(" KEY REL", ""))
+    judge("RSET", False, "PROG" in seen[77.0].split())
+    judge("KEY REL: guidance goes on", "64 06 64", seen[79.0][:8])
+    judge("the codes after RSET", [0, 0, 0o1201], codes)
     judge("it lands", True, landed(touched))
     judge("in P68", "68", end[:2])
     log = ran(agc, example.ROPE, script, "--limit", str(cycle)).stdout.splitlines()
@@ -637,14 +942,15 @@ def try_1202(flights):
     judge("without pulses there is no alarm", ([0, 0, 0], None), (calm[2], calm[1]))
     judge("and it lands too", "68", calm[4][:2])
     # what our tools say: eight core sets in use with the pulses, seven at most without; the pulses' cycles
-    begin, end = round(60 * SECOND), round(lit * SECOND)
+    begin, end = 5150000, round(lit * SECOND)  # the pulses begin, the first alarm lights
     judge("core sets in use, with pulses", 8, sets_in_use(script, begin, end)[0])
     judge("core sets in use, without", True, sets_in_use(calm[5], begin, end)[0] < 8)
-    part = ["--limit", str(end), "--from", str(begin + 85334), "--to", str(begin + 85334 + 51199)]
+    judge("SERVICERs that wait as 1202 comes, and as 1201 does", (3, 5), servicers_left(script))
+    part = ["--limit", str(end), "--from", str(begin + 85334), "--to", str(begin + 85334 + 85332)]
     stolen, quiet = profile(example.ROPE, script, *part), profile(example.ROPE, calm[5], *part)
-    # a pulse every six cycles of 51,200 is 8533; the craft's own pulses come to 60 or so
-    near("cycles taken by pulses", 8533 + quiet["all", "events"][1], stolen["all", "events"][1], 60)
-    judge("idle time without pulses", True, idle_of(quiet) > 0.04 * 51200)
+    # a pulse every thirteen cycles of 85,333 is 6564; the craft's own pulses come to 60 or so
+    near("cycles taken by pulses", 6564 + quiet["all", "events"][1], stolen["all", "events"][1], 60)
+    judge("idle time without pulses", True, idle_of(quiet) > 0.01 * 85333)
     judge("idle time with pulses", 0, idle_of(stolen))
     compared = ran(study, "compare", example.ROPE, calm[5], example.ROPE, script, "--limit", str(begin + 1000)).stdout
     judge("compare: they part at the first pulse", True, "event pulse 36 pcdu" in compared)
@@ -660,7 +966,8 @@ def try_1201():
         judge("1201, and no other alarm", [0o1201, 0, 0o1201], [machine.word("FAILREG", n) for n in range(3)])
         machine.seconds(2)
         shown = machine.shown().split()
-        judge("1201: PROG lights, and guidance goes on", "64 06 64 off PROG", " ".join(shown[:3] + shown[6:]))
+        # ALT and VEL: no radar answers
+        judge("1201: PROG lights, and guidance goes on", "64 06 64 off PROG ALT VEL", " ".join(shown[:3] + shown[6:]))
         judge("1201: a VAC area is free again", True, machine.word("VAC5USE") > 0)
         words = machine.count_of_writes()
         machine.seconds(2)
@@ -674,6 +981,142 @@ def try_1201():
         machine.seconds(0.6)
         came = machine.panel()["PROG"], machine.word("FAILREG", 2)
         judge("a phase at fault leads to a fresh start", ("00", 0o1107), came)
+
+
+# flights that go wrong
+
+
+def flown_by(*words):
+    """The last two lines that craft.py prints, without the events and their cycle, and its status."""
+    flight = ran(sys.executable, "-B", example.__file__, "--program", console, "--every", "1000", *words)
+    verdict, last = flight.stdout.splitlines()[-2:]
+    return verdict, last.partition(", ")[2], flight.returncode
+
+
+def wrong_flight(words):
+    return flown_by(*words)
+
+
+WRONG = [
+    # options, how the verdict begins and ends, and the end of the last line
+    (["--fuel", "500"], "on the ground: -", ": OUTSIDE THE LIMITS", "program 69, alarm 03001"),
+    (["--way", "2000"], "on the ground: -", ": within the limits", "program 68, alarm 03003"),
+    (["--fault", "forward-jet:60"], "on the ground: -", ": OUTSIDE THE LIMITS", "program 69, alarm 03001"),
+    (["--fault", "radar:60"], "on the ground: -", ": within the limits", "program 68, alarm 00521"),
+    (["--fault", "engine:100:5"], "on the ground: -", ": within the limits", "program 68, alarm 03002"),
+    (["--loaded-height", "2700"], "on the ground: -", ": OUTSIDE THE LIMITS", "program 69, alarm 03001"),
+    (["--script", f"{folder}/alarm/vac"], "on the ground: -", ": within the limits", "program 68, alarm 01201"),
+    (["--script", f"{folder}/alarm/waitlist"], "on the ground: -", ": within the limits", "program 68, alarm 01203"),
+    (["--loaded-mass", "0"], "not on the ground", "", "program 00, alarm 03005"),
+    (["--loaded-mass", "6890"], "aborted: +", " m", "program 70, alarm 03004"),
+]
+
+
+def try_wrong_flights(flights):
+    for (words, begin, end, told), (verdict, last, status) in zip(WRONG, flights.get()):
+        name = " ".join(words)
+        judge(f"{name}: the verdict", True, verdict.startswith(begin) and verdict.endswith(end))
+        judge(f"{name}: program and alarm", told, last)
+        judge(f"{name}: the status", 0, status)
+
+
+def try_engine():
+    """Without fuel there is no thrust, and an alarm says so; the mass stays at that of the empty craft."""
+    craft = example.Craft(fuel=300)
+    least, seen = craft.mass, []
+    with Machine() as machine:
+        for now, _ in example.fly(machine, craft):
+            least = min(least, craft.mass)
+            if craft.mass == example.DRY and not craft.touched:
+                seen.append((craft.thrust, machine.word("FAILREG")))
+    judge("the fuel never goes below zero", example.DRY, least)
+    judge("the thrust ends with it", {0.0}, {thrust for thrust, _ in seen})
+    judge("alarm 3002 comes within five seconds", True, seen[500][1] == 0o3002)
+    judge("a crash is no landing", (False, True), (craft.landed(), craft.touched is not None))
+
+
+def try_touchdown():
+    """All core sets are taken as a leg touches the ground: a restart, and P68 all the same."""
+    craft = example.Craft(60.0, 0.0, 0.0, 0.0)
+    taken = []
+
+    def disturb(machine, now):
+        if craft.contact and len(taken) < 30:
+            taken.append(now)
+            for core in range(1, 8):
+                machine.put("PRIORITY", -0o1000, 12 * core)
+
+    with Machine() as machine:
+        for _ in example.fly(machine, craft, disturb=disturb):
+            pass
+        judge("1202 at touchdown", 0o1202, machine.word("FAILREG", 2))
+        judge("P68 is shown", "68", machine.panel()["PROG"])
+        machine.put("PRIORITY", -0o1000, 12)
+        for core in range(2, 8):
+            machine.put("PRIORITY", -0o1000, 12 * core)
+        machine.seconds(1)
+        judge("and after one more restart", "68", machine.panel()["PROG"])
+    judge("the craft landed", True, craft.landed())
+
+
+def try_waitlist():
+    """A tenth task is an alarm. Three of nine places have the display's, guidance's and the radar's tasks; six more are taken."""
+    with guided(7500, 2300, 150, -45, -40, 8500) as machine:
+        machine.seconds(0.3)
+        for task in range(3, 9):
+            machine.put("LST2", 0o2000, 2 * task)
+        machine.seconds(0.5)
+        judge("nine tasks are no alarm", 0, machine.word("FAILREG"))
+        machine.press("VERB 3 5 ENTR", 0.05)
+        machine.seconds(0.2)
+        judge("ten are", 0o1203, machine.word("FAILREG"))
+        machine.seconds(1.5)
+        judge("guidance goes on", (True, 0), (machine.word("DELT") < 100, machine.word("FAILREG", 1)))
+
+
+def forced(seed):
+    """A flight with an alarm 1202 every 0.7 seconds or so."""
+    chance = random.Random(3000 + seed)
+    craft = example.Craft(*start_of(seed), seed)
+    due = [5.0]
+
+    def disturb(machine, now):
+        if now >= due[0]:
+            due[0] = now + chance.uniform(0.4, 1.0)
+            for core in range(1, 8):
+                machine.put("PRIORITY", -0o1000, 12 * core)
+
+    with Machine() as machine:
+        for _ in example.fly(machine, craft, disturb=disturb):
+            pass
+        return seed, machine.panel()["PROG"], machine.word("FAILREG", 2), craft.landed()
+
+
+def try_forced(flights):
+    for seed, *came in flights.get():
+        judge(f"1202 every 0.7 seconds, {seed}", ["68", 0o1202, True], came)
+
+
+# arithmetic
+
+
+def try_exact():
+    """The craft's arithmetic: the published 10,000th state of the generator that begins with 1, and Python's own sine."""
+    noise = exact.Noise(0)
+    noise.state = 1
+    for _ in range(10000):
+        noise.draw()
+    judge("the generator", 1043618065, noise.state)
+    worst = max(
+        max(abs(sine - math.sin(angle)), abs(cosine - math.cos(angle)))
+        for angle in (0.01 * n - 12 for n in range(2400))
+        for sine, cosine in [exact.sine_and_cosine(angle)]
+    )
+    judge("sine and cosine", True, worst < 4e-15)
+    calls = set(re.findall(r"\b(?:math|random)\.\w+", read(example.__file__) + read(exact.__file__)))
+    judge("nothing else is taken from math", {"math.floor", "math.isfinite"}, calls)
+    draws = [exact.Noise(5).normal(1.0) for _ in range(2)]
+    judge("the same seed gives the same noise", draws[0], draws[1])
 
 
 # the rope
@@ -692,9 +1135,11 @@ def orders_of_source():
         if not words or words[0] in ("EQUALS", "EBANK="):
             continue
         if words[0] == "SETLOC":
-            bank, _, offset = words[1].rpartition(",")
-            address = int(offset, 8)
-            here = (bank or ("E" if address < 0o1400 else "02" if address < 0o6000 else "03")), address
+            address = int(words[1], 8)
+            here = ("E" if address < 0o2000 else "02" if address < 0o6000 else "03"), address
+            continue
+        if words[0] == "BANK":
+            here = words[1], 0o2000
             continue
         bank, address = here
         if words[0] == "ERASE":
@@ -774,31 +1219,76 @@ def try_rope():
         judge("the rope is that of its source", file.read(), woven.stdout)
     told = [line for line in read(os.path.join(folder, "names")).splitlines() if not line.startswith("#")]
     judge("the names are those of the source", read(names).splitlines(), told)
+    commas = [line for line in read(os.path.join(folder, "descent.agc")).splitlines() if "SETLOC" in line and "," in line]
+    judge("no SETLOC has a comma, which no listing has", [], commas)
     shut = [place for place in orders_of_source() if place == PLACES["ENGOFF"]]
     judge("ENGOFF names an order", [PLACES["ENGOFF"]], shut)
 
 
+def try_assembler():
+    """Another assembler weaves the source to the same words, and gives each name the same place."""
+    again = assembler.Assembler(read(os.path.join(folder, "descent.agc")))
+    with open(example.ROPE, "rb") as file:
+        rope = file.read()
+    words, found = ([part[n : n + 2].hex() for n in range(0, len(part), 2)] for part in (rope, again.rope()))
+    places = [assembler.file_place(n) for n, pair in enumerate(zip(words, found)) if pair[0] != pair[1]]
+    judge("another assembler weaves the same words", ([], len(words)), (places, len(found)))
+    named = {name: place for name, place in again.places().items() if PLACES[name][0] != "C"}
+    judge("and gives the names the same places", named, {name: PLACES[name] for name in named})
+    channels = [name for name, place in PLACES.items() if place[0] == "C"]
+    judge("all names have a place", sorted(PLACES), sorted([*named, *channels]))
+
+
+def try_names():
+    """Each name of ours in the page's table of names is one of the source, and so is each place that the page names."""
+    page = read(os.path.join(folder, "README.md"))
+    table = page.partition("## Our names and MIT's")[2].partition("\n## ")[0]
+    ours = [name for row in re.findall(r"^\| ([^|]*) \|", table, re.M) for name in re.findall(r"`([A-Z0-9]+)`", row)]
+    judge("the table has names", True, len(ours) >= 30)
+    judge("each name of ours is in the source", [], [name for name in ours if name not in PLACES])
+
+
 def main():
     def wanted(name):
-        return len(sys.argv) < 6 or name in sys.argv[5:]
+        return len(sys.argv) == 1 or name in sys.argv[1:]
 
-    with multiprocessing.Pool(os.cpu_count()) as pool:
+    with multiprocessing.Pool(JOBS) as pool:
         running = wanted("try_hour") and pool.map_async(hour, [0], 1)
         counted = wanted("try_flown") and pool.map_async(flown, [0], 1)
         alarms = wanted("try_1202") and pool.map_async(alarm_flight, ["radar", "none"], 1)
         flights = wanted("try_flights") and pool.map_async(flight, range(FLIGHTS), 1)
+        wrong = wanted("try_wrong_flights") and pool.map_async(wrong_flight, [words for words, *_ in WRONG], 1)
+        braking = wanted("try_braking") and pool.map_async(braked, range(5), 1)
+        forcing = wanted("try_forced") and pool.map_async(forced, [6 * (n // 2) + n % 2 for n in range(FORCED)], 1)
         others = wanted("try_alarms") and pool.map_async(alarmed, range(6), 1)
         typing = wanted("try_wrong_keys") and pool.map_async(typed, range(8), 1)
         tries = [
             (try_rope,),
+            (try_assembler,),
             (try_guidance,),
             (try_scaling,),
             (try_displays,),
+            (try_slant_range,),
+            (try_radar,),
+            (try_wrong_speeds,),
+            (try_redesignation,),
+            (try_hand_controller,),
+            (try_rate_switch,),
+            (try_braking, braking),
+            (try_abort_key,),
+            (try_names,),
             (try_keys,),
             (try_flight_keys,),
             (try_1201,),
             (try_instrument,),
+            (try_buttons,),
             (try_mistakes,),
+            (try_exact,),
+            (try_engine,),
+            (try_touchdown,),
+            (try_waitlist,),
+            (try_wrong_flights, wrong),
+            (try_forced, forcing),
             (try_flights, flights),
             (try_1202, alarms),
             (try_alarms, others),
@@ -809,12 +1299,10 @@ def main():
         for each, *words in tries:
             if not wanted(each.__name__):
                 continue
-            try:
-                each(*words)
-            except Exception as error:
-                judge(each.__name__, "no exception", repr(error))
-    print(f"{passed} passed, {failed} failed")
-    sys.exit(failed > 0)
+            attempt(each, *words)
+        pool.close()  # a worker that has just begun may miss the signal that ends it
+        pool.join()
+    finish()
 
 
 if __name__ == "__main__":

@@ -1,6 +1,6 @@
 """Sessions before agc-dsky on terminals, laid beside the plain run of agc on the script that each tells.
 
-The words are: the programs agc-dsky, agc and agc-study, the top of the repository, a folder for files. Nothing waits for
+Nothing waits for
 a fixed time to be right: what is to come is waited for, for LONGEST seconds at most.
 """
 
@@ -18,9 +18,11 @@ import sys
 import termios
 import time
 
+from judge import AGC, DSKY, STUDY, TOP, finish, judge, scratch_folder
+from painter import KEYS, LONG_HINT, SHORT_HINT, below, painted
 from screen import LAMPS, Screen
 
-dsky, agc, study, top, scratch = sys.argv[1:6]
+dsky, agc, study, top, scratch = DSKY, AGC, STUDY, TOP, scratch_folder()
 
 LONGEST = 30
 KEYS_ROPE = os.path.join(top, "examples", "keys", "rope")
@@ -36,19 +38,6 @@ WHITE, CAUTION, UNLIT, GREEN = "30;47", "30;43", "2", "1;32"
 # The programs agc and agc-study that the last lines name: beside the one that was started.
 AGAIN, FILM = (os.path.join(os.path.dirname(dsky), name) for name in ("agc", "agc-study"))
 CAUTIONS = {"TEMP", "GIMBAL LOCK", "PROG", "TRACKER", "ALT", "VEL"}
-
-passed = 0
-failed = 0
-
-
-def judge(name, wanted, came):
-    """A check, which is told where it is not as it should be."""
-    global passed, failed
-    if wanted == came:
-        passed += 1
-    else:
-        failed += 1
-        print(f"FAIL: {name}: wanted {wanted!r:.400}, came {came!r:.1600}")
 
 
 class Late(Exception):
@@ -101,8 +90,9 @@ class Terminal:
         end = time.monotonic() + LONGEST
         look()
         while not came and time.monotonic() < end:
-            self.take(0.05)
-            look()
+            # In the middle of a drawing the screen is neither the one before nor the one after.
+            if not self.take(0.05):
+                look()
         self.screen.at_frame = None
         if not came:
             shown = self.screen.text() if "?1049" in self.screen.modes else self.screen.plain[-500:]
@@ -296,6 +286,20 @@ def shows(name, terminal, panel):
     judge(f"{name}: lines that have no room", 0, terminal.screen.overruns)
 
 
+def shows_whole(name, terminal, panel, cycle, hint):
+    """The whole screen of a session whose time has stopped is the picture of a panel; with the flash on, in both halves."""
+    size = (terminal.screen.lines, terminal.screen.columns)
+    halves = [panel, {**panel, "VERB": "__", "NOUN": "__"}] if panel["FLASH"] == "on" else [panel]
+    for half in halves:
+        wanted = painted(half, size, below(cycle, "1", hint), size[0] >= LARGE[0])
+        found = wanted
+        try:
+            terminal.until("", lambda screen, wanted=wanted: screen.text() == wanted)
+        except Late:
+            found = terminal.screen.text()
+        judge(f"{name}: the whole screen", wanted.split("\n"), found.split("\n"))
+
+
 def a_rope(name, relay_words, lamps, by_key):
     """A rope that sends relay words and lights lamps at its start, and sends a relay word more for each key."""
     places = [0o5200 + place for place in range(len(relay_words))]
@@ -360,11 +364,15 @@ def try_face(name, rope, typed, size):
     try:
         terminal.begun()
         terminal.on_to(1000)
+        begun = terminal.screen.cycle()
         terminal.type(typed)
-        terminal.until("keys wait for ever", lambda screen: is_idle(screen) and screen.cycle() > SPACING * len(typed))
+        terminal.until("keys wait for ever", lambda screen: is_idle(screen) and screen.cycle() > begun + SPACING * (len(typed) + 1))
         cycle = terminal.pause()
+        hint = terminal.screen.text().split("\n")[-1]
+        judge(f"{name}: the hint", LONG_HINT if size == LARGE else SHORT_HINT, hint)
         script = terminal.saved(save)
         judge(f"{name}: keys", [NAMES[key] for key in typed if key in NAMES], keys_of(script))
+        shows_whole(name, terminal, panel_of(rope, script, cycle), cycle, " saved")
         judge(f"{name}: the picture's size", size == LARGE, terminal.screen.is_large())
         shows(name, terminal, panel_of(rope, script, cycle))
         for lamp in LAMPS:
@@ -513,6 +521,71 @@ def try_saving():
         terminal.close()
 
 
+def try_marks():
+    """A key that was pressed just now is in brackets, and no other one is."""
+    terminal = Terminal([KEYS_ROPE])
+    try:
+        terminal.begun()
+        for key, name in {**NAMES, "p": "PRO"}.items():
+            terminal.type(key)
+            terminal.until(f"[{name}]", lambda screen, name=name: re.findall(r"\[\S*\]", screen.text()) == [f"[{name}]"])
+            row = next(row for row in KEYS if f" {name} " in f"{row} ")
+            marked = f" {row} ".replace(f" {name} ", f"[{name}]").strip()
+            judge(f"the mark of {name}", True, marked in terminal.screen.text())
+        judge("the end of the marks", 0, terminal.quit()[0])
+    finally:
+        terminal.close()
+
+
+def try_waiting_keys():
+    """While time is stopped one key may go down, and the line with the time counts the others."""
+    terminal = Terminal([KEYS_ROPE])
+    try:
+        terminal.begun()
+        terminal.on_to(1000)
+        cycle = terminal.pause()
+        terminal.type("4567")
+        wanted = below(cycle, "1", "")[1] + "  KEYS WAITING 3"
+        terminal.until(wanted, lambda screen: screen.text().split("\n")[22] == wanted)
+        judge("keys that wait", 0, terminal.quit()[0])
+    finally:
+        terminal.close()
+
+
+def try_fastest():
+    """As fast as possible, the line with the time says how fast that is; a parity rope's form is in the lines at the end."""
+    rope = os.path.join(top, "examples", "parity", "rope")
+    terminal = Terminal([rope, "--form", "parity", "--speed", "max"])
+    try:
+        terminal.begun()
+        pattern = r" TIME \d+\.\d s  SPEED max  RUNS AT [1-9]\d*"
+        terminal.until("no speed", lambda screen: re.fullmatch(pattern, screen.text().split("\n")[22]) is not None)
+        cycle = terminal.pause()
+        status, text = terminal.quit()
+        wanted = f"again: {AGAIN} {rope} /dev/null --limit {cycle} --form parity\n"
+        wanted += f"as a film: {FILM} film {rope} /dev/null --limit {cycle} --form parity > film.html\n"
+        judge("the end of a parity rope", (0, wanted), (status, text))
+    finally:
+        terminal.close()
+
+
+def try_remarks():
+    """What the last line says of a key that does nothing."""
+    full = written("full-script", "1000000000 raise 1\n" * 65536)
+    for words, key, remark in (
+        ([KEYS_ROPE], "t", "no tables: start with --watch SPEC"),
+        ([KEYS_ROPE, full], "4", "key dropped: the script is full, with 65536 events"),
+    ):
+        terminal = Terminal(words)
+        try:
+            terminal.begun()
+            terminal.type(key)
+            says(terminal, remark)
+            judge(f"{remark}: no key is shown", "__", terminal.screen.fields()["NOUN"])
+        finally:
+            terminal.close()
+
+
 def try_full_disk():
     """A save that fails leaves the last one, and the script is printed at the end."""
     save = os.path.join(scratch, "full")
@@ -531,7 +604,7 @@ def try_full_disk():
         judge("a full disk", (3, ["4", "7"], True), (status, keys_of(printed), terminal.is_put_back()))
         judge("a full disk: a line", f"agc-dsky: {save}: the script could not be saved; it is printed above", rest.splitlines()[-1])
         judge("a full disk: at the end", script, read(save))
-        judge("a full disk: beside it", ["full"], [name for name in os.listdir(scratch) if name.startswith("full")])
+        judge("a full disk: beside it", ["full"], [name for name in os.listdir(scratch) if name.startswith("full") and name != "full-script"])
     finally:
         terminal.close()
 
@@ -808,7 +881,6 @@ def try_many_keys():
     try:
         terminal.begun()
         keys = ("v1n2c3k4r5+6-7\r890" * 60)[:1000]
-        waiting = []
         terminal.type(keys)
         terminal.until("no KEYS WAITING", lambda screen: (screen.number("KEYS WAITING") or 0) > 100)
         terminal.until("keys wait for ever", is_idle)
@@ -1396,14 +1468,26 @@ def attempt(name, what, *words):
         judge(name, "an answer", f"{type(error).__name__} {error}")
 
 
-for each in (LARGE, SMALL):
-    attempt(f"keys at {each}", try_keys, each)
-    for face, made, keys in faces():
-        attempt(f"{face} at {each}", try_face, f"{face} at {each[0]} lines", made, keys, each)
-for each in (
-    try_unsaved, try_saving, try_full_disk, try_two_sessions, try_little_memory, try_last_keys, try_told_names, try_leaving, try_ink, try_no_terminal, try_resizing, try_script, try_refusals, try_many_keys, try_going_back,
-    try_a_long_way_back, try_boundaries, try_start, try_speeds, try_slow_speeds, try_names_and_counts, try_searches, try_long_search, try_ending_a_search_back, try_small_stack, try_lesson, try_names, try_idleness,
-):
-    attempt(each.__name__, each)
-print(f"{passed} passed, {failed} failed")
-sys.exit(failed > 0)
+GROUPS = (
+    try_unsaved, try_saving, try_marks, try_waiting_keys, try_fastest, try_remarks, try_full_disk, try_two_sessions,
+    try_little_memory, try_last_keys, try_told_names, try_leaving, try_ink, try_no_terminal, try_resizing, try_script,
+    try_refusals, try_many_keys, try_going_back, try_a_long_way_back, try_boundaries, try_start, try_speeds,
+    try_slow_speeds, try_names_and_counts, try_searches, try_long_search, try_ending_a_search_back, try_small_stack,
+    try_lesson, try_names, try_idleness,
+)
+
+
+def main(names):
+    """Tries the groups of these names, `try_faces` among them, or all."""
+    for size in (LARGE, SMALL):
+        if not names:
+            attempt(f"keys at {size}", try_keys, size)
+        for face, made, keys in faces() if not names or "try_faces" in names else ():
+            attempt(f"{face} at {size}", try_face, f"{face} at {size[0]} lines", made, keys, size)
+    for group in GROUPS:
+        if not names or group.__name__ in names:
+            attempt(group.__name__, group)
+    finish()
+
+
+main(sys.argv[1:])

@@ -34,6 +34,10 @@ class Browser:
         for part in ('Page', 'Runtime'):
             self.ask(part + '.enable')
         self.ask('Page.setLifecycleEventsEnabled', enabled=True)
+        self.resize(width, height)
+
+    def resize(self, width, height):
+        """Gives the page this size."""
         self.ask('Emulation.setDeviceMetricsOverride', width=width, height=height, deviceScaleFactor=1, mobile=False)
 
     def ask(self, method, **words):

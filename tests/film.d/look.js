@@ -22,6 +22,13 @@ const Look = {
     return isSeen ? shown.textContent : null;
   },
 
+  // whether the tables of the only run are in the window, and the bar with the controls covers nothing of them
+  seesTables() {
+    const bar = document.getElementById('controls').getBoundingClientRect();
+    const box = document.querySelector('[aria-label="The tables of the Executive"]').getBoundingClientRect();
+    return box.top >= 0 && box.bottom <= bar.top && box.left >= 0 && box.right <= innerWidth;
+  },
+
   // how bright a colour is, from 0 to 255; nothing that is hidden is
   light(shape, colour) {
     if (!shape.checkVisibility({ opacityProperty: true, visibilityProperty: true })) return 0;

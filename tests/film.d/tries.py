@@ -3,7 +3,7 @@
     tries.py FOLDER BROWSER
 
 The folder has the films that tests/film has made. What is wanted is worked out by hand from docs/study/film.md and from the
-DSKY's own drawings. The last line is 'N passed, M failed'.
+DSKY's own drawings.
 """
 import os
 import re
@@ -12,6 +12,7 @@ import sys
 import time
 
 from browser import Browser
+from judge import attempt, finish, judge, near
 
 HERE = os.path.dirname(os.path.abspath(__file__))
 SIDES = ('left', 'right')
@@ -49,17 +50,13 @@ class Tries:
     """What was tried, and with what end."""
 
     def __init__(self, folder, browser):
-        self.folder, self.browser, self.passed, self.failed = folder, browser, 0, 0
+        self.folder, self.browser = folder, browser
 
     def check(self, what, wanted, found):
-        if wanted == found:
-            self.passed += 1
-        else:
-            self.failed += 1
-            print(f'film: {what}: wanted\n{wanted}\nfound\n{found}', file=sys.stderr)
+        judge(what, wanted, found)
 
     def near(self, what, wanted, found, by):
-        self.check(f'{what}: {found} is within {by} of {wanted}', True, abs(found - wanted) <= by)
+        near(what, wanted, found, by)
 
     def file(self, name):
         with open(os.path.join(self.folder, name), encoding='utf-8') as file:
@@ -366,6 +363,10 @@ def try_tables(tries):
                     [tries.look(f"tables('{side}')") for side in SIDES])
     tries.open('one.html')
     tries.check('no tables where none are asked for', None, tries.look("tables('left')"))
+    tries.browser.resize(1280, 800)
+    tries.open('tables.html')
+    tries.check('the tables are seen whole at 1280 by 800', True, tries.look('seesTables()'))
+    tries.browser.resize(WIDTH, HEIGHT)
     without = [BLOCKS.sub('', tries.file(name)) for name in ('one.html', 'tables.html')]
     script = re.compile('<script>\n.*?</script>\n', re.DOTALL)
     tries.check('but for one script the page is that without tables', without[0], script.sub('', without[1], count=1))
@@ -666,23 +667,22 @@ def try_playing(tries):
     tries.check('from the end it plays from the start', True, tries.cycle() < 1000000)
 
 
-TRIES = (try_constants, try_film, try_changes, try_blocks, try_unpacking, try_long_film, try_remark, try_part, try_tables, try_two_films, try_long_names, try_links, try_segments, try_lamps, try_keyboard, try_keys, try_short_run,
-         try_two_runs, try_unread, try_slider, try_speeds, try_playing)
+TRIES = (
+    try_constants, try_film, try_changes, try_blocks, try_unpacking, try_long_film, try_remark, try_part, try_tables,
+    try_two_films, try_long_names, try_links, try_segments, try_lamps, try_keyboard, try_keys, try_short_run, try_two_runs,
+    try_unread, try_slider, try_speeds, try_playing,
+)
 
 
 def main(folder, program):
     browser = Browser(program, folder, WIDTH, HEIGHT)
     tries = Tries(folder, browser)
     for each in TRIES:
-        try:
-            each(tries)
-        except (RuntimeError, TimeoutError, IndexError, KeyError, StopIteration, TypeError, ValueError) as error:
-            tries.check(f'{each.__name__} goes on to its end', None, repr(error))
+        attempt(each, tries)
         tries.check(f'errors of the pages in {each.__name__}', [], browser.errors())
     browser.close()
-    print(f'{tries.passed} passed, {tries.failed} failed')
-    return 0 if tries.failed == 0 else 1
+    finish()
 
 
 if __name__ == '__main__':
-    sys.exit(main(*sys.argv[1:]))
+    main(*sys.argv[1:])

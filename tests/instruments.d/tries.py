@@ -1,5 +1,4 @@
-"""Sessions with instruments. The words are: the programs agc and agc-console, the top of the repository, a folder for
-files. All sockets are on 127.0.0.1. What is to come is waited for, for LONGEST seconds at most.
+"""Sessions with instruments. All sockets are on 127.0.0.1. What is to come is waited for, for LONGEST seconds at most.
 """
 
 import atexit
@@ -8,6 +7,7 @@ import io
 import os
 import random
 import re
+import resource
 import shlex
 import signal
 import socket
@@ -20,20 +20,9 @@ from agc import Console
 from agc_web import instruments, protocol
 from agc_web.session import Session
 from dsky import KEYS, LONGEST, PRO_DOWN, PRO_MASK, PRO_UP, RELEASE, Dsky
+from judge import AGC, CONSOLE, TOP, attempt, finish, judge, scratch_folder
 
-agc, console, top, scratch = sys.argv[1:5]
-passed = 0
-failed = 0
-
-
-def judge(what, wanted, came):
-    """A case, which is told where it is not as it should be."""
-    global passed, failed
-    if wanted == came:
-        passed += 1
-    else:
-        failed += 1
-        print(f"instruments: {what}: wanted {wanted!r:.600}, came {came!r:.600}", file=sys.__stderr__)
+agc, console, top, scratch = AGC, CONSOLE, TOP, scratch_folder()
 
 
 def rope_of(name):
@@ -157,6 +146,11 @@ class Program:
         """A client of one of the ports, which has received its first words."""
         return Dsky(self.port + number, **named).welcomed()
 
+    def children(self):
+        """The processes that the program has started."""
+        with open(f"/proc/{self.process.pid}/task/{self.process.pid}/children") as children:
+            return [int(child) for child in children.read().split()]
+
     def end(self, number=signal.SIGTERM):
         """Ends the program; returns its status. What it said stands in `out`, the script in `script`."""
         self.process.send_signal(number)
@@ -220,27 +214,39 @@ def try_bytes():
         judge(f"the packet of {text}", text, protocol.Packet(channel, word, is_mask).encode().hex())
 
 
+def packets_of(pieces):
+    """What a reader makes of these pieces: channels and words, or None from the piece on that is out of step."""
+    reader, found = protocol.PacketReader(), []
+    for piece in pieces:
+        try:
+            found += [packet[:2] for packet in reader.feed(piece)]
+        except protocol.OutOfStep:
+            return [*found, None]
+    return found
+
+
 def try_steps():
-    """streams that are out of step: what comes of them, and how many bytes are skipped"""
+    """streams in step, however they are cut, and streams that are not: no packet of the piece that is out of step is taken"""
     whole = [(0o15, 0o21), (0o10, 0o54171)]
     first, second = "016880d1", "0145a1f9"
-    for what, text, wanted, skipped in (
-        ("in step", first + second, whole, 0),
-        ("half a packet before", "0168" + first + second, whole, 0),  # two, less one for each packet
-        ("three quarters before", "016880" + first + second, whole, 1),
-        ("the end of one before", "80d1" + first + second, whole, 0),
-        ("a byte left out", first + "0145f9" + second, whole, 2),
-        ("a byte twice", "01688080d1" + second, whole[1:], 4),
-        ("rubbish", "ff" * 9 + first, whole[:1], 8),
-        ("first bytes alone", "01" * 9, [], 8),
-        ("an end alone", "c0", [], 1),
+    stream = bytes.fromhex(first + second)
+    for at in range(len(stream) + 1):
+        for to in range(at, len(stream) + 1):
+            judge(f"a stream cut at {at} and {to}", whole, packets_of([stream[:at], stream[at:to], stream[to:]]))
+    for what, text, taken in (
+        ("half a packet before", "0168" + first + second, []),
+        ("three quarters before", "016880" + first + second, []),
+        ("the end of one before", "80d1" + first + second, []),
+        ("a byte left out", first + "0145f9" + second, whole[:1]),
+        ("a byte twice", "01688080d1" + second, []),
+        ("one byte more", first + "c0" + second, whole[:1]),
+        ("rubbish", "ff" + first, []),
+        ("a request of a browser", b"POST / HTTP/1.1\r\n\r\n".hex() + first, []),
+        ("a secure connection of a browser", "160301" + first, []),
     ):
-        reader = protocol.PacketReader()
-        came = [(packet.channel, packet.word) for packet in reader.feed(bytes.fromhex(text))]
-        judge(f"a stream: {what}", (wanted, skipped), (came, reader.skipped))
-        reader = protocol.PacketReader()
-        came = [packet[:2] for byte in bytes.fromhex(text) for packet in reader.feed(bytes([byte]))]
-        judge(f"a stream byte by byte: {what}", (wanted, skipped), (came, reader.skipped))
+        data = bytes.fromhex(text)
+        judge(f"a stream: {what}", [None], packets_of([data]))
+        judge(f"a stream byte by byte: {what}", [*taken, None], packets_of([bytes([byte]) for byte in data]))
 
 
 CODES = {
@@ -330,9 +336,9 @@ def try_limits():
         ("5000 pulses in the next half second", [10_000, 5_000], [(pulse * 10_000, 0), (pulse * 5_000, 0.5)]),
         ("5001 pulses in the next half second", floods, [(pulse * 10_000, 0), (pulse * 5_001, 0.5)]),
         ("nothing is saved up for longer", floods, [("", 100), (pulse * 10_001, 100)]),
-        ("32 bytes out of step", [0], [("ff" * 32, 0)]),
-        ("33 bytes out of step", "it sends rubbish", [("ff" * 33, 0)]),
-        ("packets forgive them", [0, 20, 0], [("ff" * 32, 0), (pulse * 20, 0), ("ff" * 20, 0)]),
+        ("a byte out of step", "it sends rubbish", [("ff", 0)]),
+        ("a byte out of step after packets", "it sends rubbish", [(pulse * 20 + "ff", 0)]),
+        ("packets before it, in a piece of their own", "it sends rubbish", [(pulse * 20, 0), ("ff" + pulse, 0)]),
     ):
         judge(what, wanted, limit_of(*sent))
     client = instruments.Client(None, 1, 0.0)
@@ -586,6 +592,29 @@ def pour(dsky, data):
     return not dsky.lasts(10)
 
 
+def try_request():
+    """a request whose body is keys: in one piece, or head and body apart, it presses none; a sound client then types"""
+    program = Program(rope_of("keys"))
+    head = b"POST / HTTP/1.1\r\nHost: 127.0.0.1\r\nContent-Length: 184\r\n\r\n"
+    keys = bytes.fromhex(KEYS["1"] * 46)
+    for what, pieces in (("in one piece", [head + keys]), ("in two pieces", [head, keys]), ("after half a key", [keys[:2] + head + keys])):
+        dsky = program.dsky(1)
+        with contextlib.suppress(OSError):
+            for piece in pieces:
+                dsky.socket.sendall(piece)
+                time.sleep(0.05)
+        judge(f"a request {what} loses its connection", False, dsky.lasts(10))
+    judge("it is told", 3, sum("it sends rubbish, and loses its connection" in line for line in program.lines()))
+    sound = program.dsky(1)
+    data = bytes.fromhex(KEYS["4"] + RELEASE + KEYS["2"] + RELEASE)
+    for at in range(0, len(data), 3):
+        sound.socket.sendall(data[at:at + 3])
+        time.sleep(0.02)
+    judge("a sound client types, its bytes cut in threes", True, sound.until(lambda each: each.shown()[2] == "NOUN 42"))
+    judge("the status", 0, program.end())
+    judge("its keys alone were pressed", ["key 4", "key 2"], [each for each in program.commands() if each.startswith("key")])
+
+
 def try_rubbish():
     """random bytes, bytes that are no packets, half packets, and floods: the client goes, and nothing else happens"""
     program = Program(rope_of("keys"))
@@ -818,18 +847,55 @@ def try_ends():
     judge("it is told", True, program.wait_for("the machine has stopped: DivisionUndefined at cycle 6"))
     dsky = program.dsky()
     dsky.keys("4")
-    judge("a key is refused then", True, program.wait_for("input refused: Stopped"))
+    judge("a key is refused then", True, program.wait_for("input refused: the machine takes no event any more"))
     judge("the status", 0, program.end())
+    program = Program(rope_of("keys"), "--limit", "5000")
+    judge("its limit stops it", True, program.wait_for("the machine has stopped: Limit at cycle 5000"))
+    judge("the status", 0, program.end())
+    judge("the limit that repeats it", 5000, program.limit())
     program = Program(rope_of("keys"))
     dsky = typed(program)
-    with open(f"/proc/{program.process.pid}/task/{program.process.pid}/children") as children:
-        inside = [int(child) for child in children.read().split()]
+    inside = program.children()
     for child in inside:
         os.kill(child, signal.SIGKILL)
     judge("a console that is killed ends it", (True, 1), (len(inside) > 0, program.ended()))
     judge("it is told", "instruments: agc-console has ended: ", program.lines()[-1][:36])
     judge("the client sees the end", False, dsky.lasts(10))
     judge("its script is saved", ["key 4"], program.commands())
+
+
+def try_standing_still():
+    """a console that stands still, and signals that come at once: the script is saved, and within two seconds"""
+    for what, stops, signals in (
+        ("a console that stands still", True, [signal.SIGTERM]),
+        ("and a second signal", True, [signal.SIGINT, signal.SIGTERM]),
+        ("three signals at once", False, [signal.SIGINT, signal.SIGTERM, signal.SIGHUP]),
+    ):
+        program = Program(rope_of("keys"))
+        dsky = typed(program)
+        console_process = program.children()[0]
+        if stops:
+            os.kill(console_process, signal.SIGSTOP)
+            dsky.keys("7")  # which the machine does not take any more
+            time.sleep(0.2)
+        begun = time.monotonic()
+        for number in signals:
+            os.kill(program.process.pid, number)
+        judge(f"{what}: the status", 0, program.ended())
+        judge(f"{what}: it ends soon ({time.monotonic() - begun:.2f} s)", True, time.monotonic() - begun < 2)
+        judge(f"{what}: the script is saved", ["key 4"], program.commands())
+        judge(f"{what}: nothing else is said", [], [line for line in program.lines() if not line.startswith("instruments: port")])
+        end = time.monotonic() + 5  # a process that has ended stays in /proc for a moment
+        while os.path.exists(f"/proc/{console_process}") and time.monotonic() < end:
+            time.sleep(0.02)
+        judge(f"{what}: no console is left", False, os.path.exists(f"/proc/{console_process}"))
+    program = Program(rope_of("keys"))
+    typed(program)
+    # as if the disk were full, which holds for the file of its standard error, too
+    resource.prlimit(program.process.pid, resource.RLIMIT_FSIZE, (0, resource.RLIM_INFINITY))
+    judge("a full disk: the status", 3, program.end())
+    judge("a full disk: the script is printed", True, bool(re.fullmatch(r"\d+ key 4\n", program.out)))
+    judge("a full disk: no file is left", False, os.path.exists(program.file))
 
 
 def try_hangup():
@@ -881,6 +947,26 @@ def try_going_back():
     judge("what is said", f"instruments: ports {beside.port} to {beside.port + 9} of 127.0.0.1", told[0])
 
 
+def try_long_ago():
+    """going back after a long run: what clients are to see is found beside the machine, which goes on"""
+    script = os.path.join(TOP, "examples", "count-4", "script")
+    with Beside(rope_of("count-4"), script) as beside:
+        dsky, session = Dsky(beside.port).welcomed(), beside.session
+        session.inject(lambda machine: machine.quiet())
+        begun = time.monotonic()
+        session.inject(lambda machine: machine.go_to(4 * 10**8))
+        run = time.monotonic() - begun
+        session.inject(lambda machine: machine.quiet(False))
+        begun = time.monotonic()
+        for _ in range(3):
+            session.step()
+            time.sleep(0.03)
+        took = time.monotonic() - begun
+        judge(f"three steps take {took:.2f} s, the run took {run:.2f}", True, took < run / 2)
+        wanted = session.inject(lambda machine: machine.panel())
+        judge("the client sees what is shown", True, dsky.until(lambda each: each.shown()[3] == f"R1 {wanted['R1']}"))
+
+
 def try_late():
     """instruments that come to a machine that has shown something already"""
     def before(machine):
@@ -915,15 +1001,11 @@ def try_page():
 
 for each in (
     try_bytes, try_steps, try_commands, try_lamps, try_limits, try_addresses, try_keys, try_second_keyboard, try_pro,
-    try_counters, try_four, try_rubbish, try_keeping_waiting, try_due, try_gaps, try_saving, try_far, try_speed, try_ends,
-    try_hangup, try_going_back, try_late, try_page,
+    try_counters, try_four, try_request, try_rubbish, try_keeping_waiting, try_due, try_gaps, try_saving, try_far, try_speed,
+    try_ends, try_standing_still, try_hangup, try_going_back, try_long_ago, try_late, try_page,
 ):
     begun = time.monotonic()
-    try:
-        each()
-    except Exception as error:
-        judge(each.__name__, "no exception", repr(error))
+    attempt(each)
     if os.environ.get("TIMES"):
         print(f"{each.__name__} {time.monotonic() - begun:.1f} s", file=sys.stderr)
-print(f"{passed} passed, {failed} failed")
-sys.exit(failed > 0)
+finish()

@@ -1,4 +1,4 @@
-"""Flights of the craft of examples/lander. The words are: the program agc, the program agc-console, a folder for files.
+"""Flights of the craft of examples/lander.
 
 Where the craft is after each step follows from the law alone, which `law` states, and from the cycles of the looks:
 TIME5 steps first at pulse 5120 and each 10240 pulses from there, twelve pulses a cycle, and each tenth step carries.
@@ -13,23 +13,12 @@ import sys
 
 import craft as example
 from agc import Console
+from judge import AGC, CONSOLE, attempt, finish, judge, scratch_folder
 
-agc, console, scratch = sys.argv[1:4]
-passed = 0
-failed = 0
+agc, console, scratch = AGC, CONSOLE, scratch_folder()
 
 EDGE = 91
 WRITTEN_AFTER = {2: 56, 1: 58, 0: 60}
-
-
-def judge(what, wanted, came):
-    """A case, which is told where it is not as it should be."""
-    global passed, failed
-    if wanted == came:
-        passed += 1
-    else:
-        failed += 1
-        print(f"lander: {what}: wanted {wanted!r:.300}, came {came!r:.300}", file=sys.stderr)
 
 
 def law(angle, turned):
@@ -137,7 +126,7 @@ def try_others():
 
 def try_program():
     """The program itself: twenty lines and one more, the script that it saves, and the picture."""
-    name, again, picture = (os.path.join(scratch, name) for name in ("saved", "again", "picture"))
+    name, again, picture = (os.path.join(scratch, name) for name in ("saved", "again", "picture.png"))
     words = [sys.executable, "-B", example.__file__, "--seconds", "20", "--program", console]
     first = subprocess.run([*words, "--save", name], capture_output=True, text=True)
     second = subprocess.run([*words, "--save", again, "--png", picture], capture_output=True, text=True)
@@ -201,9 +190,5 @@ def read(name):
 
 
 for each in (try_ten_degrees, try_others, try_program, try_refusals, try_full):
-    try:
-        each()
-    except Exception as error:
-        judge(each.__name__, "no exception", repr(error))
-print(f"{passed} passed, {failed} failed")
-sys.exit(failed > 0)
+    attempt(each)
+finish()

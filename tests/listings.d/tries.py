@@ -1,4 +1,4 @@
-"""Tries of weave with pages in the listings' language. The words are: agc-study, tests/pages, and the folder of examples.
+"""Tries of weave with pages in the listings' language.
 
 Of a page NAME.agc, NAME.words has each place with its word. Each row of `faults` is put where `faulty` has a mark; the
 row's last line is to be refused.
@@ -6,25 +6,12 @@ row's last line is to be refused.
 
 import re
 import subprocess
-import sys
-import tempfile
 from pathlib import Path
 
-STUDY, PAGES, EXAMPLES = sys.argv[1:4]
+from judge import STUDY, TOP, finish, judge, scratch_folder
+
 HERE = Path(__file__).parent
 BANKS = [2, 3, 0, 1, *range(4, 36)]  # in the order of a rope file
-passed = 0
-failed = 0
-
-
-def judge(what, wanted, came):
-    """A case, which is shown if it is not as it should be."""
-    global passed, failed
-    if wanted == came:
-        passed += 1
-    else:
-        failed += 1
-        print(f"listings: {what}: wanted {wanted!r:.400}, came {came!r:.400}", file=sys.stderr)
 
 
 def weave(page):
@@ -66,19 +53,17 @@ def try_faults(scratch):
         lines = row.split(";")
         page.write_text("\n".join(base[:mark] + lines + base[mark + 1:]))
         status, rope, message = weave(page)
-        first = re.match(r"agc-study: text line (\d+)\b", message)
+        first = re.match(r"agc-study: (?:text|page\.agc) line (\d+)\b", message)
         judge(f"the line `{row}`", (2, b"", mark + len(lines)), (status, rope, int(first[1]) if first else message))
 
 
 def main():
-    with tempfile.TemporaryDirectory() as scratch:
-        for page in sorted(HERE.glob("*.agc")):
-            try_page(page)
-        try_faults(scratch)
-    shown = subprocess.run([PAGES, Path(EXAMPLES, "waitlist", "README.md")], capture_output=True, text=True)
+    for page in sorted(HERE.glob("*.agc")):
+        try_page(page)
+    try_faults(scratch_folder())
+    shown = subprocess.run([Path(TOP, "tests/pages"), Path(TOP, "examples/waitlist/README.md")], capture_output=True, text=True)
     judge("the commands of the example's page", (0, ""), (shown.returncode, shown.stderr))
-    print(f"{passed} passed, {failed} failed")
-    return 0 if not failed else 1
 
 
-sys.exit(main())
+main()
+finish()

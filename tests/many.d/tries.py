@@ -1,12 +1,11 @@
 """Compares what is told of many changed ropes with the writes that `agc --log` prints, and the panels of these."""
 
-import os
 import subprocess
-import sys
-import tempfile
 from pathlib import Path
 
-AGC, STUDY, EXAMPLES = os.environ["AGC"], os.environ["STUDY"], Path(sys.argv[1])
+from judge import AGC, STUDY, TOP, check, finish, scratch_folder
+
+EXAMPLES = Path(TOP, "examples")
 ROPE, SCRIPT = EXAMPLES / "verbs/rope", EXAMPLES / "verbs/script"
 LIMIT = "60000"
 FIRST, LAST = 0o4000, 0o4307
@@ -132,39 +131,29 @@ def compare(left, right, words):
 
 
 def main():
-    passed, wrong = 0, []
-    with tempfile.TemporaryDirectory() as folder:
-        subprocess.run([EXAMPLES / "many/change", ROPE, f"{FIRST:o}", f"{LAST:o}", folder], check=True)
-        whole = run(ROPE)
-        runs = {place: run(Path(folder) / f"{place:04o}") for place in range(FIRST, LAST + 1)}
-        lines = [f"{place:04o} {told(shown(whole, 'panels'), shown(writes, 'panels'), 'panels')[1]}" for place, writes in runs.items()]
-        same = sum(line.endswith("same") for line in lines)
-        lines.append(f"{len(runs)} ropes, of which the display does not show {same}")
-        printed = subprocess.run([EXAMPLES / "many/run"], capture_output=True, check=True).stdout.decode().splitlines()
-        for number, line in enumerate(lines):
-            if number < len(printed) and printed[number] == line:
-                passed += 1
-            else:
-                wrong.append(f"examples/many: line {number + 1} should be {line}")
-        if len(printed) != len(lines):
-            wrong.append(f"examples/many: {len(printed)} lines, and should be {len(lines)}")
-        for place, writes in runs.items():
-            if writes == whole:
-                continue
-            for what in ["writes", "panels", "channel=010", "channel=11", "channel=12"]:
-                left, right = shown(writes, what), shown(whole, what)
-                report, line = told(left, right, what)
-                status = 0 if line == "same" else 1
-                for words, wanted in [([], report), (["--brief"], line + "\n")]:
-                    words = ["--by", what, *words]
-                    if compare(Path(folder) / f"{place:04o}", ROPE, words) == (wanted, status):
-                        passed += 1
-                    else:
-                        wrong.append(f"compare {place:04o} {' '.join(words)}")
-    for line in wrong:
-        print(line)
-    print(f"{passed} passed, {len(wrong)} failed")
-    return bool(wrong)
+    folder = scratch_folder()
+    subprocess.run([EXAMPLES / "many/change", ROPE, f"{FIRST:o}", f"{LAST:o}", folder], check=True)
+    whole = run(ROPE)
+    runs = {place: run(Path(folder) / f"{place:04o}") for place in range(FIRST, LAST + 1)}
+    lines = [f"{place:04o} {told(shown(whole, 'panels'), shown(writes, 'panels'), 'panels')[1]}" for place, writes in runs.items()]
+    same = sum(line.endswith("same") for line in lines)
+    lines.append(f"{len(runs)} ropes, of which the display does not show {same}")
+    printed = subprocess.run([EXAMPLES / "many/run"], capture_output=True, check=True).stdout.decode().splitlines()
+    for number, line in enumerate(lines):
+        check(f"examples/many: line {number + 1} should be {line}", number < len(printed) and printed[number] == line)
+    if len(printed) != len(lines):
+        check(f"examples/many: {len(printed)} lines, and should be {len(lines)}", False)
+    for place, writes in runs.items():
+        if writes == whole:
+            continue
+        for what in ["writes", "panels", "channel=010", "channel=11", "channel=12"]:
+            left, right = shown(writes, what), shown(whole, what)
+            report, line = told(left, right, what)
+            status = 0 if line == "same" else 1
+            for words, wanted in [([], report), (["--brief"], line + "\n")]:
+                words = ["--by", what, *words]
+                check(f"compare {place:04o} {' '.join(words)}", compare(Path(folder) / f"{place:04o}", ROPE, words) == (wanted, status))
 
 
-sys.exit(main())
+main()
+finish()

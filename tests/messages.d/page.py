@@ -1,29 +1,37 @@
-"""Makes docs/MESSAGES.md from the code and from `table`, or compares them.
+"""Compares docs/MESSAGES.md with `table`, and each message of the table with what the programs print.
 
-    page.py TOP [--write]
+    page.py [--write]
 
-`table` has sections. `# TITLE` begins one, and `> TEXT` is a paragraph of it. `@ FILE ..` names files of the code: each
-string in them that has a space and eight letters is a message; `@@ FILE ..` names files in which each string with a letter
-is one. A line with no blank at its start is a message as the code has it; several such lines make one item of the page.
-The lines after them begin with a tab: cause, remedy and, if the code has only a part, how they are shown. `=` instead of a
-cause or a remedy means that the message itself says it. `^ MESSAGE` is a message of another section. `~ PATTERN` is a
-string that is no message. A message without a remedy, one that no file of its section has, one with a word that the page
-does not show, and a string that the section does not list are faults. The last line is 'N passed, M failed'.
+`table` has sections. `# TITLE` begins one, and `> TEXT` is a paragraph of it. A line with no blank at its start is a message;
+several such lines make one item of the page. In a message `{NAME}` is a text that differs, and in one of a launcher `$NAME`
+too. The lines after them begin with a tab: cause, remedy and, if the message is only a part, how it is shown. `=` instead of
+a cause or a remedy means that the message itself says it.
+
+Each message has to be in a stored output: of the runs in `*.runs`, which are run here, of the examples, or of help. `@ FILE ..`
+names judges of a section whose own text has the message instead, because it needs a terminal, or memory that is refused.
+Each line on standard error in these runs has to be a message of the table.
 """
 
-import fnmatch
 import re
 import sys
 from pathlib import Path
 
-TOP = Path(sys.argv[1])
-TABLE = TOP / "tests" / "messages.d" / "table"
+import cases
+import files
+import judge
+import runs
+
+TOP = Path(judge.TOP)
+HERE = TOP / "tests" / "messages.d"
+TABLE = HERE / "table"
 PAGE = TOP / "docs" / "MESSAGES.md"
-HEAD = "# Messages\n\n<!-- tests/messages --write writes this page from the code and tests/messages.d/table. -->\n\n"
+HEAD = "# Messages\n\n<!-- tests/messages --write writes this page from tests/messages.d/table. -->\n\n"
 # What differs from one message to the next.
-VARIES = re.compile(r"\$?\{!?#?(\w*)[^}]*\}|\$(\w+)")
-# In a launcher: the texts of `say`, `fail` and `why`, and a text that stands for an empty value.
-SHELL = re.compile(r"""(?:\bsay|\bfail \d+|\b(?:why|stale|no_place)=|\bdiffers\+?=) ?"((?:[^"\\]|\\.)*)"|:-([^}"]+)\}""")
+VARIES = re.compile(r"\$?\{!?#?(\w*)[^}]*\}|\$(\w+)|\$\((\w+)[^)]*\)")
+# How a line ends that the system, or the parser of command lines, gives the reason of.
+SYSTEMS = ("(os error 2)", ": file too large", "invalid digit found in string", "number too large to fit in target type")
+# The outputs that other judges compare whole.
+STORED = ("examples/study/*/std*", "examples/*/std*", "examples/console/*/std*", "tests/help.d/*")
 
 
 class Item:
@@ -34,11 +42,10 @@ class Item:
 
 
 class Section:
-    """A section of the table: its title, its paragraphs, its files, its items, its other strings."""
+    """A section of the table: its title, its paragraphs, the judges that have its messages, its items."""
 
     def __init__(self, title):
-        self.title, self.text, self.files, self.items = title, [], [], []
-        self.others, self.elsewhere = [], []
+        self.title, self.text, self.judges, self.items = title, [], [], []
 
     def messages(self):
         return [message for item in self.items for message in item.messages]
@@ -54,13 +61,8 @@ def sections_of(table):
         section = sections[-1]
         if line.startswith("> "):
             section.text.append(line[2:])
-        elif line.startswith(("@ ", "@@ ")):
-            mark, *files = line.split()
-            section.files += [(file, mark == "@@") for file in files]
-        elif line.startswith("~ "):
-            section.others.append(line[2:])
-        elif line.startswith("^ "):
-            section.elsewhere.append(line[2:])
+        elif line.startswith("@ "):
+            section.judges += line[2:].split()
         elif line.startswith("\t"):
             section.items[-1].says.append(line[1:])
         elif line:
@@ -70,57 +72,47 @@ def sections_of(table):
     return sections
 
 
-def rust_strings(code):
-    """The strings of a source file, without those of comments and tests."""
-    code = re.split(r"^#\[cfg\(test\)\]\nmod \w+ \{", code, flags=re.MULTILINE)[0]
-    pattern = re.compile(r"""//[^\n]*|'(?:\\.[^']*|[^'\\])'|b?"((?:[^"\\]|\\.)*)\"""", re.DOTALL)
-    return [found[1] for found in pattern.finditer(code) if found[1] is not None]
+class Pattern:
+    """What a message looks like in a line: it is no part of a longer word."""
+
+    def __init__(self, message):
+        parts = VARIES.split(plain(message))[::VARIES.groups + 1]
+        self.longest = max(parts, key=len)
+        text = ".+?".join(map(re.escape, parts))
+        begin, end = plain(message)[0].isalpha(), plain(message)[-1].isalpha()
+        self.regex = re.compile(("(?<![A-Za-z])" if begin else "") + text + ("(?![A-Za-z])" if end else ""))
+
+    def is_in(self, line):
+        return self.longest in line and self.regex.search(line) is not None
 
 
-def strings_in(file):
-    """The strings of a file of the code, as the table has them: without what stands round a sentence."""
-    code = (TOP / file).read_text(encoding="utf-8")
-    strings = rust_strings(code) if file.endswith(".rt") else [a or b for a, b in SHELL.findall(code)]
-    return [trimmed(text) for text in strings]
+def check_shown(sections, lines):
+    """Checks that each message is in a line of a stored output, or in a judge that its section names."""
+    for section in sections:
+        judges = [line for file in section.judges for line in plain((TOP / file).read_text(encoding="utf-8")).splitlines()]
+        for message in section.messages():
+            pattern = Pattern(message)
+            is_shown = any(map(pattern.is_in, lines)) or any(map(pattern.is_in, judges))
+            judge.check(f"{section.title}: no stored output has: {message}", is_shown)
 
 
-def trimmed(text):
-    """A string of the code without line feeds at its end, and without the last line of a mistake."""
-    text = text.replace("\\n\\nFor more information, try '--help'.\\n", "")
-    return re.sub(r"(?:\\n)+$", "", text).strip(" ")
+def check_listed(sections, every):
+    """Checks that the table has each line of a program on standard error, but for what the system says."""
+    patterns = [Pattern(message) for section in sections for message in section.messages()]
+    for run in every:
+        for line in run.err.splitlines():
+            if re.match(r"agc[a-z-]*: |error: invalid value .*: ", line) and not line.endswith(SYSTEMS):
+                judge.check(f"{run.where}: not in the table: {line}", any(pattern.is_in(line) for pattern in patterns))
 
 
-def is_message(text, every):
-    """Whether a string is a message."""
-    bare = re.sub(r"\{[^}]*\}|\\x[0-9a-f]{2}|\\.", "", text)
-    letters = len(re.findall("[A-Za-z]", bare))
-    return letters > 0 if every else letters >= 8 and " " in bare.strip()
-
-
-def faults_of(section, every):
-    """The faults of a section, one line each; `every` has the messages of all sections."""
-    found = set()
-    for file, all_of_it in section.files:
-        if not (TOP / file).exists():
-            yield f"{section.title}: there is no file {file}"
-            continue
-        found |= {text for text in strings_in(file) if is_message(text, all_of_it)}
-    left = {text for text in found if not any(fnmatch.fnmatchcase(text, other) for other in section.others)}
-    for text in sorted(left - set(section.messages()) - set(section.elsewhere)):
-        yield f"{section.title}: not in the table: {text}"
-    for text in section.messages() + section.elsewhere:
-        if section.files and text not in found:
-            yield f"{section.title}: no file has it: {text}"
-    for text in section.elsewhere:
-        if text not in every:
-            yield f"{section.title}: no section has it: {text}"
+def check_items(section):
+    """Checks that each item has a cause and a remedy, and shows its messages whole."""
     for item in section.items:
-        if len(item.says) not in (2, 3) or not all(item.says):
-            yield f"{section.title}: needs a cause and a remedy: {item.messages[0]}"
+        if not judge.check(f"{section.title}: needs a cause and a remedy: {item.messages[0]}", len(item.says) in (2, 3) and all(item.says)):
             continue
         for text in item.messages:
-            if not words_of(text) <= words_of(" ".join(texts_of(item))):
-                yield f"{section.title}: not shown whole: {text}"
+            shows = words_of(text) <= words_of(" ".join(texts_of(item)))
+            judge.check(f"{section.title}: not shown whole: {text}", shows)
 
 
 def shown(text):
@@ -129,8 +121,8 @@ def shown(text):
 
 
 def plain(text):
-    """A message of the code without escapes."""
-    return text.replace('\\"', '"').replace("\\n", " ")
+    """A message of a launcher without escapes."""
+    return text.replace('\\"', '"')
 
 
 def words_of(text):
@@ -165,24 +157,28 @@ def page_of(sections):
     return text.rstrip("\n") + "\n"
 
 
+def check_page(sections):
+    page = page_of(sections)
+    if "--write" in sys.argv[1:]:
+        PAGE.write_text(page, encoding="utf-8")
+    is_page = PAGE.exists() and PAGE.read_text(encoding="utf-8") == page
+    judge.check("docs/MESSAGES.md is not the page of the table: run tests/messages --write", is_page)
+
+
 def main():
     sections = sections_of(TABLE.read_text(encoding="utf-8"))
-    every = {message for section in sections for message in section.messages()}
-    faults = [fault for section in sections for fault in faults_of(section, every)]
-    for fault in faults:
-        print(f"messages: {fault}", file=sys.stderr)
-    passed = len(every) - len(faults)
-    if not faults:
-        page = page_of(sections)
-        if "--write" in sys.argv[2:]:
-            PAGE.write_text(page, encoding="utf-8")
-        if PAGE.exists() and PAGE.read_text(encoding="utf-8") == page:
-            passed += 1
-        else:
-            print("messages: docs/MESSAGES.md is not the page of the table: run tests/messages --write", file=sys.stderr)
-            faults = ["page"]
-    print(f"{max(passed, 0)} passed, {len(faults)} failed")
-    return 0 if passed > 0 and not faults else 1
+    folder = judge.scratch_folder()
+    files.make(folder)
+    every = runs.check_runs(sorted(HERE.glob("*.runs")), folder)
+    stored = [path.read_text(encoding="utf-8", errors="replace") for each in STORED for path in TOP.glob(each) if path.is_file()]
+    stored += [run.text() for run in every]
+    for section in sections:
+        check_items(section)
+    check_shown(sections, sorted({line for text in stored for line in text.splitlines()}))
+    check_listed(sections, every)
+    cases.check_cases(HERE / "cases", stored)
+    check_page(sections)
+    judge.finish()
 
 
-sys.exit(main())
+main()

@@ -11,7 +11,9 @@ import tempfile
 import textwrap
 from pathlib import Path
 
-TOP = Path(sys.argv[1])
+import judge
+
+TOP = Path(judge.TOP)
 PROGRAMS = {"agc": "AGC", "agc-study": "STUDY", "agc-console": "CONSOLE", "agc-dsky": "DSKY"}
 # what a page's commands may read or change; the rest of the tree is no business of theirs
 COPIED = ("README.md", "docs", "examples", "clients", "prebuilt", "agc-web")
@@ -112,8 +114,16 @@ def printed_by(folder, commands):
                 if Path(scratch, f"{index}.done").exists() else None for index in range(len(commands))]
 
 
-def tries_of(page):
-    """Runs the commands of a page, and yields for each whether it printed what the page shows."""
+def answer_of(command, wanted, printed):
+    """Returns what there is to say of a command, and whether it printed what the page shows."""
+    if printed is None:
+        return f"{command}\nthe shell did not get to its end within {SECONDS} seconds", False
+    difference = difflib.unified_diff(wanted, printed, "page", "printed", lineterm="")
+    return "\n".join([command, *difference]), is_shown(wanted, printed)
+
+
+def try_page(page):
+    """Runs the commands of a page, and checks whether each prints what the page shows."""
     with tempfile.TemporaryDirectory() as scratch:
         folder = Path(scratch)
         copied = False
@@ -128,24 +138,15 @@ def tries_of(page):
                 (folder / named[1]).write_text("\n".join(block) + "\n", encoding="utf-8")
                 continue
             for (number, text_of, wanted), printed in zip(commands, printed_by(folder, commands)):
-                right = printed is not None and is_shown(wanted, printed)
-                if not right:
-                    print(f"pages: {page.relative_to(TOP)}:{number}: {text_of}", file=sys.stderr)
-                    if printed is None:
-                        print(f"the shell did not get to its end within {SECONDS} seconds", file=sys.stderr)
-                    else:
-                        for line in difflib.unified_diff(wanted, printed, "page", "printed", lineterm=""):
-                            print(line, file=sys.stderr)
-                yield right
+                judge.check(*answer_of(f"{page.relative_to(TOP)}:{number}: {text_of}", wanted, printed))
 
 
 def main():
-    signal.signal(signal.SIGTERM, lambda *_: sys.exit(143))
     os.environ["LC_ALL"] = "C"
-    pages = [Path(name).resolve() for name in sys.argv[2:]] or [TOP / "README.md", *sorted((TOP / "docs").rglob("*.md"))]
-    answers = [answer for page in pages for answer in tries_of(page)]
-    print(f"{sum(answers)} passed, {len(answers) - sum(answers)} failed")
-    return 0 if answers and all(answers) else 1
+    pages = [Path(name).resolve() for name in sys.argv[1:]] or [TOP / "README.md", *sorted((TOP / "docs").rglob("*.md"))]
+    for page in pages:
+        try_page(page)
+    judge.finish()
 
 
-sys.exit(main())
+main()

@@ -1,17 +1,24 @@
-"""Compares what `agc-study profile` tells with a slow count over the lines of the plain trace, and with names a
-slow sum over its words."""
+"""Compares what `agc-study profile` prints with a profile that is made here, line by line: a slow count over the lines of the
+plain trace, with the orders of `list`, and with names a slow sum over its words."""
 
-import csv
+import os
 import random
 import subprocess
-import sys
-import tempfile
 from collections import defaultdict
 from pathlib import Path
 
-STUDY, EXAMPLES, TRIES = sys.argv[1], Path(sys.argv[2]), int(sys.argv[3])
+from judge import STUDY, TOP, check, finish, judge, scratch_folder
+
+EXAMPLES = Path(TOP, "examples")
+TRIES = int(os.environ.get("PROFILE_TRIES", 60))
 RUNS = [("keys", 300), ("timers", 3000), ("division", 100), ("downlink", 400), ("verbs", 60000)]
+BANKED = int(os.environ.get("PROFILE_BANKED", 8))
 SEED = 20
+HEADING = "         times          cycles          data  of what"
+ALL = ("boundaries", "orders", "timers", "events", "interrupts", "in services", "under INHINT")
+INTERRUPTS = ("T6RUPT", "T5RUPT", "T3RUPT", "T4RUPT", "KEYRUPT1", "KEYRUPT2", "UPRUPT", "DOWNRUPT", "RADARUPT", "RUPT10")
+BASICS = "TC RELINT INHINT EXTEND CCS TCF DAS LXCH INCR ADS CA CS INDEX RESUME DXCH TS XCH AD MASK".split()
+EXTRAS = "READ WRITE RAND WAND ROR WOR RXOR EDRUPT DV BZF MSU QXCH AUG DIM DCA DCS INDEX SU BZMF MP".split()
 # the words before which an order is an extracode
 CHANNELS = {"READ", "WRITE", "RAND", "WAND", "ROR", "WOR", "RXOR", "EDRUPT"}
 EXTRACODES = CHANNELS | {"DV", "BZF", "MSU", "QXCH", "AUG", "DIM", "DCA", "DCS", "SU", "BZMF", "MP"}
@@ -106,20 +113,38 @@ def told_by(rope, script, limit, first, last):
     return {thing: tuple(tally) for thing, tally in tallies.items() if any(tally)}, dict(reads)
 
 
-def counted(rope, script, limit, first, last):
-    """The tallies that a count prints and how often places were read, those that are not all 0."""
-    words = ["profile", rope, script, "--limit", str(limit), "--from", str(first), "--to", str(last)]
-    rows = list(csv.DictReader(run([*words, "--csv"]).splitlines()))
-    columns = [line.split(None, 3) for line in run(words).splitlines()[1:]]
-    shown = [(row["times"], row["cycles"], row["data"] or "-", " ".join(filter(None, (row["kind"], row["name"], row["order"]))))
-             for row in rows]
-    if [tuple(column) for column in columns] != shown:
-        return None
-    told = {(row["kind"], row["name"]): (int(row["times"]), int(row["cycles"])) for row in rows}
-    reads = {row["name"]: int(row["data"]) for row in rows if row["kind"] == "word"}
-    if any(row["data"] for row in rows if row["kind"] != "word"):
-        return None
-    return {thing: tally for thing, tally in told.items() if any(tally)}, {place: times for place, times in reads.items() if times}
+def place_of_rope(place):
+    """Whether a place of fixed memory is in a bank that a rope has."""
+    memory, number = location_of(place)
+    return memory == "F" and number < 36 * 0o2000
+
+
+def rows_of(rope, script, limit, first, last, whole=False):
+    """The rows of a profile: what a count over the trace gives, in the order of docs/study/profile.md."""
+    tallies, reads = told_by(rope, script, limit, first, last)
+    orders = dict(line.split(" ", 1) for line in run(["list", rope]).splitlines())
+    names = [("all", name) for name in ALL]
+    names += [("interrupt", name) for name in INTERRUPTS] + [("order", name) for name in BASICS] + [("extracode", name) for name in EXTRAS]
+    names += [("bank", f"E{bank:o}") for bank in range(8)] + [("bank", f"{bank:02o}") for bank in range(0o50)]
+    rows = [row_of(kind, name, "", tallies.get((kind, name), (0, 0)), "") for kind, name in names
+            if kind == "all" or any(tallies.get((kind, name), ()))]
+    unknown = {thing for thing in tallies if thing[0] != "word"} - set(names)
+    check(f"{rope}: counted, and of no kind: {unknown}", not unknown)
+    words = {name for kind, name in tallies if kind == "word"} | set(reads) | (set(orders) if whole else set())
+    for place in sorted(words, key=location_of):
+        order = orders.get(place, "00000 TC 0000") if place_of_rope(place) else ""
+        rows.append(row_of("word", place, order, tallies.get(("word", place), (0, 0)), str(reads.get(place, 0))))
+    return rows
+
+
+def row_of(kind, name, order, tally, data):
+    return {"kind": kind, "name": name, "order": order, "times": str(tally[0]), "cycles": str(tally[1]), "data": data}
+
+
+def value_of(row):
+    """The line of a row as comma-separated values."""
+    name = row["name"].replace('"', '""')
+    return ",".join([row["kind"], f'"{name}"', row["order"], row["times"], row["cycles"], row["data"]])
 
 
 def written(folder, chance):
@@ -136,12 +161,54 @@ def written(folder, chance):
     return rope, script
 
 
-def agrees(rope, script, limit, first, last):
-    """Both ways of counting give the same."""
-    same = counted(rope, script, limit, first, last) == told_by(rope, script, limit, first, last)
-    if not same:
-        print("counts:", rope, script, limit, first, last, file=sys.stderr)
-    return same
+def check_profile(what, words, rows):
+    """Checks both forms of a profile, whole."""
+    judge(f"{what}: values", ["kind,name,order,times,cycles,data", *map(value_of, rows)], run([*words, "--csv"]).splitlines())
+    judge(f"{what}: columns", [HEADING, *(column_of(row, "--names" in words) for row in rows)], run(words).splitlines())
+
+
+def check_counts(rope, script, limit, first, last, whole=False):
+    """Checks a profile without names."""
+    words = ["profile", rope, script, "--limit", str(limit), "--from", str(first), "--to", str(last)] + ["--rope"] * whole
+    check_profile(f"counts: {rope} {script} {limit} {first} {last} {whole}", words, rows_of(rope, script, limit, first, last, whole))
+
+
+def banked(folder, chance):
+    """A rope that runs random orders in each of the 36 banks, and a script with interrupts. Of each bank a subroutine is
+    called, with EBANK, FBANK and the superbank of chance: the code is at 4060, its data at 6000."""
+    words = {(bank, at): chance.randrange(0o100000) for bank in range(36) for at in range(0o2000)}
+    code, data = [], []
+
+    def take(word):
+        data.append(word)
+        return 0o30000 + 0o6000 + len(data) - 1
+
+    for bank in chance.sample([bank for bank in range(36) if bank not in (2, 3)], 34):
+        start = chance.randrange(0o1700)
+        is_super = bank >= 0o40
+        code += [take(chance.randrange(8) << 8), 0o54003, take(0o100 * is_super), 6, 0o01007, take((bank - 8 * is_super) << 10), 0o54004, 0o02000 + start]
+        for at, order in enumerate([*straight(chance), 2]):
+            words[bank, start + at] = order
+    code.append(0o10000 + 0o4060)
+    words.update({(2, at): 0o50017 for at in range(0o60)})
+    words[2, 0] = 0o10000 + 0o4060
+    words.update({(2, 0o60 + at): word for at, word in enumerate(code)})
+    words.update({(3, at): word for at, word in enumerate(data)})
+    rope = folder / "rope"
+    rope.write_bytes(b"".join((2 * words[bank, at]).to_bytes(2, "big") for bank in (2, 3, 0, 1, *range(4, 36)) for at in range(0o2000)))
+    script = folder / "script"
+    script.write_text("".join(f"{cycle} raise {chance.randrange(1, 11)}\n" for cycle in sorted(chance.sample(range(2000), 8))))
+    return rope, script
+
+
+def straight(chance):
+    """Orders that go on to the next one: with cells, with words of their own bank, with extracodes."""
+    for _ in range(chance.randrange(4, 12)):
+        cell, own = chance.choice((0o100, 0o1400)) + chance.randrange(0o300), 0o2000 + chance.randrange(0o2000)
+        yield from chance.choice((
+            [0o30000 + own], [0o40000 + own], [0o60000 + own], [0o70000 + own], [6, 0o30000 + own], [6, 0o70000 + own],
+            [0o30000 + cell], [0o56000 + cell], [0o24000 + cell], [6, 0o40000 + cell], [0o22000 + cell], [6, 0o26000 + cell],
+        ))
 
 
 def location_of(place):
@@ -209,10 +276,10 @@ def with_names(rows, names):
     return [row for row in rows if row["kind"] != "word"] + routines + words
 
 
-def column_of(row):
-    """The line of a row in columns: the name of a word with an order is padded."""
+def column_of(row, is_named):
+    """The line of a row in columns. With names that of a word with an order is padded to twelve characters."""
     label = row["name"]
-    if row["kind"] == "word" and row["order"]:
+    if is_named and row["kind"] == "word" and row["order"]:
         place, _, name = label.partition(" ")
         label = f"{place} {name:12}"
     return f"{row['times']:>14}{row['cycles']:>16}{row['data'] or '-':>14}  {row['kind']} {label} {row['order']}".rstrip(" ")
@@ -229,40 +296,36 @@ def some_names(rows, chance):
     return names
 
 
-def agrees_with_names(rope, script, limit, first, last, folder, chance):
-    """Names after places, and sums by routine, against those that the count without names gives."""
-    words = ["profile", rope, script, "--limit", str(limit), "--from", str(first), "--to", str(last)]
-    rows = list(csv.DictReader(run([*words, "--csv"]).splitlines()))
+def check_names(rope, script, limit, first, last, folder, chance):
+    """Checks names after places, and sums by routine."""
+    rows = rows_of(rope, script, limit, first, last)
     names = some_names(rows, chance)
     file = folder / "names"
     file.write_text("".join(f"{shown(memory, at)} {name}\n" for memory, at, name in names))
-    told = list(csv.DictReader(run([*words, "--csv", "--names", str(file)]).splitlines()))
-    columns = run([*words, "--names", str(file)]).splitlines()[1:]
-    wanted = with_names(rows, names)
-    same = told == wanted and columns == [column_of(row) for row in wanted]
-    if not same:
-        print("names:", rope, script, limit, first, last, names, file=sys.stderr)
-    return same
+    words = ["profile", rope, script, "--limit", str(limit), "--from", str(first), "--to", str(last), "--names", str(file)]
+    check_profile(f"names: {rope} {script} {limit} {first} {last} {names}", words, with_names(rows, names))
 
 
 def main():
     chance = random.Random(SEED)
-    answers = []
     for name, limit in RUNS:
         for first, last in ((0, limit), (limit // 3, limit // 2), (100, 100)):
-            answers.append(agrees(EXAMPLES / name / "rope", EXAMPLES / name / "script", limit, first, last))
-    with tempfile.TemporaryDirectory() as scratch:
-        for name, limit in RUNS:
-            files = EXAMPLES / name / "rope", EXAMPLES / name / "script"
-            for first, last in ((0, limit), (limit // 3, limit // 2)):
-                answers.append(agrees_with_names(*files, limit, first, last, Path(scratch), chance))
-        for _ in range(TRIES):
-            rope, script = written(Path(scratch), chance)
-            first = chance.choice((0, 0, chance.randrange(1000)))
-            answers.append(agrees(rope, script, 2000, first, chance.choice((2000, first + chance.randrange(800)))))
-            answers.append(agrees_with_names(rope, script, 2000, first, 2000, Path(scratch), chance))
-    print(f"{sum(answers)} passed, {len(answers) - sum(answers)} failed")
-    return 0 if answers and all(answers) else 1
+            check_counts(EXAMPLES / name / "rope", EXAMPLES / name / "script", limit, first, last, first > 0)
+    scratch = Path(scratch_folder())
+    for name, limit in RUNS:
+        files = EXAMPLES / name / "rope", EXAMPLES / name / "script"
+        for first, last in ((0, limit), (limit // 3, limit // 2)):
+            check_names(*files, limit, first, last, scratch, chance)
+    for _ in range(BANKED):
+        rope, script = banked(scratch, chance)
+        check_counts(rope, script, 2000, 0, 2000)
+        check_names(rope, script, 2000, 0, 2000, scratch, chance)
+    for _ in range(TRIES):
+        rope, script = written(scratch, chance)
+        first = chance.choice((0, 0, chance.randrange(1000)))
+        check_counts(rope, script, 2000, first, chance.choice((2000, first + chance.randrange(800))))
+        check_names(rope, script, 2000, first, 2000, scratch, chance)
 
 
-sys.exit(main())
+main()
+finish()

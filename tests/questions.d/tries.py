@@ -6,10 +6,11 @@ have sixteen bits in a trace, by the registers of the plain trace.
 
 import itertools
 import subprocess
-import sys
 from pathlib import Path
 
-STUDY, CONSOLE, EXAMPLES = sys.argv[1], sys.argv[2], Path(sys.argv[3])
+from judge import CONSOLE, STUDY, TOP, check, finish
+
+EXAMPLES = Path(TOP, "examples")
 RUNS = [("keys", 300), ("timers", 3000), ("division", 100), ("study/trace-jumps", 16), ("study/trace-timer", 2000)]
 ONLY = [None, "writes", "interrupts", "jumps"]
 AT = [[], ["4000"], ["02,4060-4074"], ["4000-4003", "4060", "4024"]]
@@ -105,9 +106,13 @@ def with_cells(plain, told, cells):
     return [line if line != old or " - stop " in old else None for line, old in zip(lines, plain)]
 
 
+def check_answer(run, words, wanted):
+    """Checks the lines that a question is answered with."""
+    check(" ".join([run[0], *words]), trace(run, words) == wanted)
+
+
 def cell_tries():
-    """How many questions about cells were answered as they should be, and how many were not."""
-    passed = failed = 0
+    """Checks the answers to questions about cells."""
     for run in RUNS:
         plain = trace(run, [])
         told = words_told(run, plain)
@@ -123,16 +128,11 @@ def cell_tries():
                 words = [w for value in cells for w in ("--cell", value)] + [w for value in at for w in ("--at", value)]
                 words += [w for value in orders for w in ("--order", value)] + (["--last", str(last)] if last else [])
                 wanted = [line for line in lines if keeps(line, at, orders, [])]
-                if trace(run, kind + words) == (wanted[-last:] if last else wanted):
-                    passed += 1
-                else:
-                    failed += 1
-                    print("questions:", run[0], *kind, *words, file=sys.stderr)
-    return passed, failed
+                check_answer(run, kind + words, wanted[-last:] if last else wanted)
 
 
 def main():
-    passed, failed = cell_tries()
+    cell_tries()
     for run, only in itertools.product(RUNS, ONLY):
         kind = ["--only", only] if only else []
         plain = trace(run, kind)
@@ -140,13 +140,8 @@ def main():
             words = [w for value in at for w in ("--at", value)] + [w for value in orders for w in ("--order", value)]
             words += [w for value in channels for w in ("--channel", value)] + (["--last", str(last)] if last else [])
             wanted = [line for line in plain if keeps(line, at, orders, channels)]
-            if trace(run, kind + words) == (wanted[-last:] if last else wanted):
-                passed += 1
-            else:
-                failed += 1
-                print("questions:", run[0], *kind, *words, file=sys.stderr)
-    print(f"{passed} passed, {failed} failed")
-    return 0 if passed and not failed else 1
+            check_answer(run, kind + words, wanted[-last:] if last else wanted)
 
 
-sys.exit(main())
+main()
+finish()

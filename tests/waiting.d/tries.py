@@ -11,10 +11,10 @@ import random
 import re
 import subprocess
 import sys
-import tempfile
 from pathlib import Path
 
-AGC, STUDY, CONSOLE = os.environ["AGC"], os.environ["STUDY"], os.environ["CONSOLE"]
+from judge import AGC, CONSOLE, STUDY, check, finish, scratch_folder
+
 TRIES = int(os.environ.get("TRIES", "60"))
 SEED = int(os.environ.get("SEED", "1969"))
 LIMIT = 6000
@@ -199,18 +199,14 @@ def tried(chance, rope, script):
 
 def main():
     chance = random.Random(SEED)
-    passed = failed = 0
-    with tempfile.TemporaryDirectory() as folder:
-        files = Path(folder, "rope"), Path(folder, "script")
-        for number in range(TRIES):
-            files[0].write_bytes(rope(chance))
-            files[1].write_text(script(chance))
-            wrong = list(tried(chance, *files))
-            for what in wrong[:3]:
-                print(f"waiting: rope {number} of seed {SEED}: {what}", file=sys.stderr)
-            passed, failed = passed + (not wrong), failed + bool(wrong)
-    print(f"{passed} passed, {failed} failed")
-    return failed != 0
+    folder = scratch_folder()
+    files = Path(folder, "rope"), Path(folder, "script")
+    for number in range(TRIES):
+        files[0].write_bytes(rope(chance))
+        files[1].write_text(script(chance))
+        wrong = list(tried(chance, *files))
+        check(f"rope {number} of seed {SEED}: {'; '.join(wrong[:3])}", not wrong)
 
 
-sys.exit(main())
+main()
+finish()

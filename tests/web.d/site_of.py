@@ -2,18 +2,97 @@
 import http.client
 import json
 import os
+import random
 import signal
 import socket
 import subprocess
 import time
 
-LONGEST = 20  # seconds that anything may take
+from judge import TOP
+
+LONGEST = 60  # seconds that anything may take, on a slow machine too
+
+
+def example(*names):
+    """Returns the path of an example's file."""
+    return os.path.join(TOP, 'examples', *names)
+
+
+def started(*words, **more):
+    """Starts agc-web with these words, at a free port."""
+    return Site([os.path.join(TOP, 'agc-web'), *words, '--port', '0'], **more)
+
+
+def keys_in(script):
+    """Returns the commands of a script, without their cycles."""
+    return [line.split(' ', 1)[1] for line in script.splitlines()]
+
+
+def is_running(number):
+    """Whether there is a process with this number that has not ended."""
+    try:
+        with open(f'/proc/{number}/stat') as file:
+            return file.read().rpartition(')')[2].split()[0] != 'Z'
+    except OSError:
+        return False
+
+
+def free_ports():
+    """Returns the first of ten ports that nobody has."""
+    while True:
+        first, held = random.randrange(20000, 32000), []
+        try:
+            for port in range(first, first + 10):
+                held.append(socket.socket())
+                held[-1].bind(('127.0.0.1', port))
+            return first
+        except OSError:
+            continue
+        finally:
+            for each in held:
+                each.close()
+
+
+class Stream:
+    """The news for a window, by a WebSocket."""
+
+    def __init__(self, site, size, window):
+        self.socket = socket.socket()
+        if size:
+            self.socket.setsockopt(socket.SOL_SOCKET, socket.SO_RCVBUF, size)
+        self.socket.settimeout(LONGEST)
+        self.socket.connect(('127.0.0.1', site.port))
+        # the key and its answer are the example of RFC 6455
+        head = f'GET /events?token={site.token}&window={window} HTTP/1.1\r\nHost: {site.host}\r\nUpgrade: websocket\r\n'
+        self.socket.sendall((head + 'Connection: Upgrade\r\nSec-WebSocket-Key: dGhlIHNhbXBsZSBub25jZQ==\r\n\r\n').encode())
+        self.bytes = self.socket.makefile('rb')
+        self.head = list(iter(lambda: self.bytes.readline().decode().rstrip(), ''))
+
+    def __enter__(self):
+        return self
+
+    def __exit__(self, *_):
+        self.close()
+
+    def message(self):
+        """Returns the next message."""
+        while True:
+            code, length = self.bytes.read(2)
+            if length > 125:
+                length = int.from_bytes(self.bytes.read(2 if length == 126 else 8), 'big')
+            data = self.bytes.read(length)
+            if code == 0x81:
+                return json.loads(data)
+
+    def close(self):
+        self.bytes.close()
+        self.socket.close()
 
 
 class Site:
     """A running agc-web, or another program that serves its page."""
 
-    started = []
+    started: list = []
 
     def __init__(self, words, environment=None, folder=None):
         began = time.monotonic()
@@ -50,6 +129,10 @@ class Site:
         finally:
             connection.close()
 
+    def console(self):
+        """Returns the number of the process of its console."""
+        return next(number for number, words in self.children() if any('agc' in word for word in words))
+
     def do(self, command, **more):
         """Has a command done; returns the status."""
         return self.request('POST', '/do', {'do': command, **more})[0]
@@ -58,40 +141,25 @@ class Site:
         return self.request('GET', '/script')[2]
 
     def stream(self, size=None, window=''):
-        """Opens the news for a window, and returns the socket and what it reads by; with a buffer of this size."""
-        connection = socket.socket()
-        if size:
-            connection.setsockopt(socket.SOL_SOCKET, socket.SO_RCVBUF, size)
-        connection.settimeout(LONGEST)
-        connection.connect(('127.0.0.1', self.port))
-        connection.sendall(f'GET /events?token={self.token}&window={window} HTTP/1.1\r\nHost: {self.host}\r\n\r\n'.encode())
-        return connection, connection.makefile('rb')
+        """Opens the news for a window; with a buffer of this size."""
+        return Stream(self, size, window)
 
     def messages(self, seconds, enough=lambda found: False):
         """Returns the messages of the news in the next seconds, or those up to the one with which they are enough."""
         found, end = [], time.monotonic() + seconds
-        connection, lines = self.stream()
-        try:
+        with self.stream() as stream:
             while time.monotonic() < end and not enough(found):
-                line = lines.readline()
-                if line.startswith(b'data: '):
-                    found.append(json.loads(line[6:]))
-        finally:
-            lines.close()
-            connection.close()
+                found.append(stream.message())
         return found
 
     def state(self):
-        """Returns all parts of the news as they are now."""
-        connection, lines = self.stream()
-        try:
-            while True:
-                line = lines.readline()
-                if line.startswith(b'data: '):
-                    return json.loads(line[6:])
-        finally:
-            lines.close()
-            connection.close()
+        """Returns all parts of the news as they are now. There is room for fifty windows, and some that have gone may still count."""
+        end = time.monotonic() + LONGEST
+        while True:
+            with self.stream() as stream:
+                if any(' 101 ' in line for line in stream.head) or time.monotonic() > end:
+                    return stream.message()
+            time.sleep(0.2)
 
     def children(self):
         """Returns the processes that the program has started: their numbers and command lines."""
@@ -134,10 +202,11 @@ class Site:
 
 
 def wait(predicate, seconds=LONGEST):
-    """Waits until something is so; returns whether it is."""
-    end = time.monotonic() + seconds
+    """Waits until something is so; returns whether it is. The looks become rarer, so that they hold nothing up."""
+    end, rest = time.monotonic() + seconds, 0.02
     while time.monotonic() < end:
         if predicate():
             return True
-        time.sleep(0.02)
+        time.sleep(rest)
+        rest = min(0.2, 1.1 * rest)
     return bool(predicate())

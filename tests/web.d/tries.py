@@ -1,9 +1,7 @@
 """Tries agc-web: in a browser, and by requests that are to be refused.
 
-    tries.py TOP FOLDER BROWSER AGC CONSOLE
-
 What is wanted is worked out by hand from the examples' sources and from docs/WEB.md, or is what agc, agc-console and
-agc-study make of the script that the page lets one download. The last line is 'N passed, M failed'.
+agc-study make of the script that the page lets one download.
 """
 import http.client
 import http.server
@@ -22,14 +20,28 @@ import sys
 import threading
 import time
 
-from agc import Console, Error
+from agc import Console, Refused
 from agc_web.server import Server
 from agc_web.session import KEYS, Session, Unable
-from site_of import LONGEST, Site, wait
+from dsky import KEYS as KEY_PACKETS, Dsky
+from judge import AGC, CONSOLE, TOP, attempt, finish, judge, near, scratch_folder
+from site_of import LONGEST, Site, example, free_ports, keys_in, started, wait
 from window import Window
+import buttons
+import ends
+import filmed
+import found
+import guides
+import listens
+import looks
+import rooms
+import storms
+import times
+import views
+import whys
 
 HERE = os.path.dirname(os.path.abspath(__file__))
-TOP, FOLDER, BROWSER, AGC, CONSOLE = sys.argv[1:6]
+FOLDER, BROWSER = scratch_folder(), os.environ['BROWSER']
 PICTURES, FIGURES = os.environ.get('PICTURES'), os.environ.get('FIGURES')
 A_SECOND = 1024000 / 12  # cycles
 TENTH = 8533
@@ -37,24 +49,9 @@ SIZE = (1000, 700)
 PHONE = (390, 844)
 
 spec = importlib.util.spec_from_file_location('film_tries', os.path.join(HERE, '..', 'film.d', 'tries.py'))
+assert spec and spec.loader
 film = importlib.util.module_from_spec(spec)
 spec.loader.exec_module(film)
-
-passed = failed = 0
-
-
-def judge(what, wanted, found):
-    """A case, which is told where it is not as it should be."""
-    global passed, failed
-    if wanted == found:
-        passed += 1
-    else:
-        failed += 1
-        print(f'web: {what}: wanted\n{wanted!r:.2000}\nfound\n{found!r:.2000}', file=sys.stderr)
-
-
-def near(what, wanted, found, by):
-    judge(f'{what}: {found} is within {by} of {wanted}', True, abs(found - wanted) <= by)
 
 
 def figure(what, value):
@@ -62,20 +59,11 @@ def figure(what, value):
         print(f'web: {what}: {value}')
 
 
-def example(*names):
-    return os.path.join(TOP, 'examples', *names)
-
-
-def started(*words, **more):
-    """Starts agc-web with these words, at a free port."""
-    return Site([os.path.join(TOP, 'agc-web'), *words, '--port', '0'], **more)
-
-
 class Page:
     """The page of a site in a window of a browser."""
 
     count = 0
-    opened = []
+    opened: list = []
 
     def __init__(self, site, size=SIZE):
         Page.count += 1
@@ -127,7 +115,7 @@ class Page:
     def type(self, *names):
         self.window.type(*names)
 
-    def see(self, script, wanted, seconds=30):
+    def see(self, script, wanted, seconds=LONGEST):
         """Waits until a script gives this; returns what it gave last."""
         wait(lambda: self.value(script) == wanted, seconds)
         return self.value(script)
@@ -149,11 +137,20 @@ class Page:
         self.click('#ask-yes' if sure else '#ask button[value=no]')
 
     def pause(self):
-        wait(lambda: self.text('state') != 'working …')
-        if self.text('state').startswith('running'):
+        """Stops time by the keyboard, if it does not stand."""
+        self.value('turn.then(() => 0)')  # the session has done what it was asked
+        if self.site.state()['time']['playing']:
+            self.see('now.playing', True)
             self.type('Space')
         judge('time stands', 'paused', self.state('paused'))
         settle(self)
+
+    def run_on(self, cycles):
+        """Waits until time has gone on by so many cycles since the last event of the script. Time does not keep up with a clock on
+        the wall if the processors are busy."""
+        lines = self.site.script().splitlines()
+        end = (int(lines[-1].split(' ')[0]) if lines else self.cycle()) + cycles
+        judge('time goes on', True, wait(lambda: self.cycle() >= end))
 
     def close(self):
         Page.opened.remove(self)
@@ -203,10 +200,6 @@ def compare_with_agc(what, page, rope):
     return script
 
 
-def keys_in(script):
-    return [line.split(' ', 1)[1] for line in script.splitlines()]
-
-
 # the session of a user
 
 
@@ -217,6 +210,17 @@ def try_session():
     figure('seconds until the page is served', round(site.seconds, 2))
     judge('the page is served soon', True, site.seconds < 5)
     page = Page(site)
+    script = session_of(page, rope)
+    try_film(page, rope)
+    page.close()
+    judge('a window that closes ends nothing', 200, site.request('GET', '/')[0])
+    judge('what the page had', script, site.script())
+    status, out, err = site.end()
+    judge('Control-C: the script is printed', (0, '', True), (status, err, out.endswith('\n' + script)))
+
+
+def session_of(page, rope):
+    """What a user does on a page with the rope of `verbs`; tests/page does the same. Returns the script."""
     judge('it begins paused, at cycle 0', ('paused', 0), (page.state('paused'), page.cycle()))
     compare_with_agc('at first', page, rope)
     page.click('#play')
@@ -237,7 +241,7 @@ def try_session():
         page.key(name)
     noun = film.segments_of(film.panel(VERB='35', NOUN='09'))
     page.see("Look.places('left').slice(4, 6).join()", ','.join(noun[4:6]))
-    time.sleep(0.5)  # a tenth of a second back is after the last key
+    page.run_on(3 * TENTH)  # a tenth of a second back is after the last key
     page.pause()
     script = compare_with_agc('after RSET NOUN 09', page, rope)
     judge('keys that are clicked', ['key RSET', 'key NOUN', 'key 0', 'key 9'], keys_in(script)[4:])
@@ -245,12 +249,7 @@ def try_session():
     judge('keys are a tenth of a second apart', True, all(after - before >= TENTH for before, after in zip(gaps, gaps[1:])))
     try_inside(page, rope, script)
     try_back(page, rope, script)
-    try_film(page, rope)
-    page.close()
-    judge('a window that closes ends nothing', 200, site.request('GET', '/')[0])
-    script = site.script()
-    status, out, err = site.end()
-    judge('Control-C: the script is printed', (0, '', True), (status, err, out.endswith('\n' + script)))
+    return page.site.script()
 
 
 def try_inside(page, rope, script):
@@ -404,7 +403,7 @@ def try_pro():
     x, y = page.middle("[data-key='PRO'] button")
     began = time.monotonic()
     page.window.mouse('mousePressed', x, y)
-    time.sleep(0.6)
+    time.sleep(1.2)
     judge('PRO looks held', 'PRO', page.see("Look.down('left')", 'PRO'))
     page.window.mouse('mouseReleased', x, y)
     held = time.monotonic() - began
@@ -415,7 +414,7 @@ def try_pro():
     page.see("Look.down('left')", '')
     page.window.key('p', 'keyDown')
     wait(lambda: len(keys_in(site.script())) == 5)
-    time.sleep(0.2)
+    page.run_on(2000)
     page.window.key(' ', 'keyDown')
     page.window.key(' ', 'keyUp')
     page.state('paused')
@@ -429,11 +428,11 @@ def try_pro():
     page.window.key('p', 'keyDown')
     wait(lambda: keys_in(site.script())[-1:] == ['pro down'] and len(keys_in(site.script())) == 5)
     page.close()
-    wait(lambda: len(keys_in(site.script())) == 6, 10)
+    wait(lambda: len(keys_in(site.script())) == 6)
     script = site.script()
     judge('PRO goes down and up', ['pro down', 'pro up'] * 3, keys_in(script))
     cycles = [int(line.split(' ')[0]) for line in script.splitlines()]
-    near('how long PRO was held', held, (cycles[1] - cycles[0]) / A_SECOND, 0.25)
+    near('how long PRO was held', held, (cycles[1] - cycles[0]) / A_SECOND, 0.6)
     site.end()
 
 
@@ -487,10 +486,12 @@ def try_words(page):
     page.type('Escape')
     judge('Escape leaves a field', 'BODY', page.value('document.activeElement.tagName'))
     page.click('#memory-tab')
+    page.value("""window.bright = new Set();
+        new MutationObserver(() => document.querySelectorAll('#memory td.changed').forEach((cell) => bright.add(cell.textContent)))
+            .observe(document.getElementById('memory'), { attributes: true, childList: true, subtree: true }); undefined""")
     page.click('#play')
     page.type('7')
-    bright = "[...document.querySelectorAll('#memory td.changed')].map((cell) => cell.textContent)"
-    judge('a cell that changes is bright', True, wait(lambda: '00007' in page.value(bright)))
+    judge('a cell that changes is bright', True, page.see("bright.has('00007')", True))
     page.pause()
 
 
@@ -505,7 +506,7 @@ def try_many_cells():
     words = "[...document.querySelectorAll('#watched .word')].map((cell) => cell.textContent)"
     with replayed(example('keys', 'rope'), '', 0) as console:
         wanted = [f'{word:05o}' for word in console.cells('0300', 130)]
-    judge('130 cells', wanted, page.see(words, wanted, 5))
+    judge('130 cells', wanted, page.see(words, wanted))
     page.close()
     site.end()
 
@@ -519,14 +520,13 @@ def try_breaks(page, site):
     judge('a breakpoint', ['order at KEYIN'], page.see("[...document.querySelectorAll('#breaks code')].map((each) => each.textContent)", ['order at KEYIN']))
     page.click('#break-place')
     page.type(*'nowhere', 'Enter')
-    judge('no breakpoint', True, wait(lambda: 'BadPlace' in page.text('trouble')))
+    judge('no breakpoint', True, wait(lambda: page.text('trouble').startswith('unknown name')))
     page.value("document.getElementById('break-place').value = ''; document.activeElement.blur()")
     press_and_hit(page, site, '1', 'order at KEYIN', 3)
     judge('the order comes next', True, page.text('next').startswith('4024 KEYIN'))
     judge('the boundary before it', True, line_of(page, '#history li', len(page.texts('#history li')) - 1).endswith('interrupt KEYRUPT1'))
     page.click('#play')
-    page.state('running')
-    time.sleep(0.3)  # the service of the key ends
+    page.run_on(5000)  # the service of the key ends
     page.pause()
     judge('a second breakpoint', 200, site.do('break', place='write 10'))
     press_and_hit(page, site, '3', 'order at KEYIN', 3)
@@ -539,10 +539,12 @@ def try_breaks(page, site):
     for text, left in (('KEYIN', ['write to channel 10']), ('write 10', [])):
         page.click(f'#breaks [aria-label="Remove the breakpoint {text}"]')
         judge('the breakpoints that are left', left, page.see(shown, left))
+    before = len(keys_in(site.script()))
     page.click('#play')
     page.type('5')
-    time.sleep(0.3)
-    judge('nothing stops time any more', 'running', page.text('state'))
+    wait(lambda: len(keys_in(site.script())) > before)
+    page.run_on(5000)
+    judge('nothing stops time any more', 'running', page.state('running'))
     page.pause()
 
 
@@ -595,7 +597,7 @@ def try_sizes():
     controls = parts + ', #time, #time button:not([hidden]), #slider, #speed, #inspector'
     judge('at 1000 x 700 all is seen', [], page.value(f'({seen})({json.dumps(controls)})'))
     judge('and nothing scrolls', True, page.value('document.documentElement.scrollHeight <= innerHeight'))
-    time.sleep(0.3)  # so that the next key need not wait
+    page.run_on(2 * TENTH)  # so that the next key need not wait
     page.pause()
     try_names(page)
     try_tabs(page)
@@ -655,7 +657,7 @@ def try_tabs(page):
     page.value('document.activeElement.blur()')
     page.type('Space')
     page.state('running')
-    time.sleep(0.3)  # so that the last hundred boundaries have no key
+    page.run_on(2000)  # so that the last hundred boundaries have no key
     page.pause()
     see_history(page)
     page.value("document.querySelector('#history li:last-child button').focus()")
@@ -719,13 +721,48 @@ def try_other_pages(page, site, elsewhere):
     page.window.load(elsewhere.url)
     for token in ('', f'?token={site.token}'):
         body = '{"do":"key","name":"7"}'
-        sent = f"""fetch('http://{site.host}/do{token}', {{ method: 'POST', mode: 'no-cors', body: '{body}' }}).then((answer) => answer.type, () => 'failed')"""
-        page.value(sent)
-        read = f"fetch('http://{site.host}/script{token}').then((answer) => answer.text(), () => 'unread')"
-        judge('a page from elsewhere reads nothing', 'unread', page.value(read))
+        for more in ('', "credentials: 'include', "):
+            sent = f"""fetch('http://{site.host}/do{token}', {{ {more}method: 'POST', mode: 'no-cors', body: '{body}' }}).then((answer) => answer.type, () => 'failed')"""
+            page.value(sent)
+            read = f"fetch('http://{site.host}/script{token}', {{ {more} }}).then((answer) => answer.text(), () => 'unread')"
+            judge('a page from elsewhere reads nothing', 'unread', page.value(read))
+        news = f"new Promise((done) => {{ const it = new WebSocket('ws://{site.host}/events{token}'); it.onopen = () => done('open'); it.onerror = () => done('failed'); }})"
+        judge('nor the news', 'failed', page.value(news))
     judge('and does nothing', ('', 0), (site.script(), site.state()['time']['waiting']))
     page.window.load(f'http://rebound.test:{site.port}/?token={site.token}')
     judge('another name for this machine', '{"error": "this is not our host"}', page.value('document.body.textContent'))
+
+
+def try_ports():
+    """A page from elsewhere sends packets to the instruments' ports, in each way that a browser has: nothing is pressed. Each
+    request has more packets than its head has bytes, and nothing else is on the way."""
+    ports = free_ports()
+    site, elsewhere = started(example('keys', 'rope'), '--instruments', str(ports)), Elsewhere()
+    page = Page(site)
+    site.do('play')
+    page.window.load(elsewhere.url)
+    page.value("""window.bytes = (text, count) => Uint8Array.from({ length: 4 * count }, (_, i) => parseInt(text.slice(i % 4 * 2, i % 4 * 2 + 2), 16));
+        window.until = (start) => new Promise((done) => { const it = start(); it.onclose = done; it.onerror = done; });
+        undefined""")
+    for number in range(10):
+        url = f'http://127.0.0.1:{ports + number}/'
+        for packet, count in ((KEY_PACKETS['1'], 900), ('135080c1', 9000)):
+            body = f"bytes('{packet}', {count})"
+            page.value(f"fetch('{url}', {{ method: 'POST', mode: 'no-cors', body: {body} }}).catch(() => 0).then(() => 0)")
+            page.value(f"navigator.sendBeacon('{url}', {body})")
+            page.value(f"fetch('{url}?' + '%01h%80%c1'.repeat(900), {{ mode: 'no-cors' }}).catch(() => 0).then(() => 0)")
+    page.value(f"until(() => new WebSocket('ws://127.0.0.1:{ports}/')).then(() => 0)")
+    time.sleep(0.5)
+    judge('what a page from elsewhere has sent acts', [], keys_in(site.script())[:3])
+    dsky = Dsky(ports).welcomed()
+    dsky.keys('4')
+    wait(site.script)
+    judge('an instrument presses a key there', ['key 4'], keys_in(site.script()))
+    dsky.close()
+    page.window.errors()
+    page.close()
+    elsewhere.close()
+    site.end()
 
 
 # requests
@@ -734,7 +771,7 @@ def try_other_pages(page, site, elsewhere):
 def try_refusals():
     """Requests that are refused, with their statuses; none changes anything."""
     site = started(example('verbs', 'rope'))
-    key, origin = {'do': 'key', 'name': '7'}, f'http://{site.host}'
+    key = {'do': 'key', 'name': '7'}
     post = lambda body=key, **headers: site.request('POST', '/do', body, **headers)[0]
     cases = [
         ('no token', 403, lambda: post(X_Token=None)),
@@ -793,13 +830,13 @@ def try_refusals():
 
 def try_port():
     """Browsers leave port 80 out of the host and the origin; at other ports such names are refused."""
-    server = Server(None, {})
+    server = Server(None, {}, 0, None)
     connection = http.client.HTTPConnection('127.0.0.1', server.port)
     threading.Thread(target=server.serve_forever, daemon=True).start()
     for port, wanted in ((server.port, 403), (80, 200)):
         server.port = port  # as if it were bound there
         for name in ('127.0.0.1', 'localhost'):
-            connection.request('GET', '/', headers={'Host': name, 'Origin': f'http://{name}', 'X-Token': server.token})
+            connection.request('GET', '/', headers={'Host': name, 'Origin': f'http://{name}', 'X-Token': server.gate.token})
             with connection.getresponse() as answer:
                 answer.read()
             judge(f'{name} at port {port}', wanted, answer.status)
@@ -822,13 +859,13 @@ def try_sockets(site):
         site.do('step')
     began = time.monotonic()
     judge('a command while browsers stall', 200, site.do('play'))
+    judge('it is done soon', True, time.monotonic() - began < 5)
     cycles = lambda found: [each['time']['cycle'] for each in found if 'time' in each]
     goes_on = lambda found: len(cycles(found)) > 5 and cycles(found)[-1] - cycles(found)[0] > 0.5 * A_SECOND
     news = site.messages(LONGEST, goes_on)
     site.do('pause')
-    judge('it is done soon', True, time.monotonic() - began < 3)
     judge('another window sees time go on', True, goes_on(news))
-    for connection in [*halves, *(each for each, _ in stalled)]:
+    for connection in [*halves, *stalled]:
         connection.close()
 
 
@@ -898,10 +935,10 @@ def try_views():
             session.press('4')
             session.play()
             row = lambda: json.loads(session.news.since(0, 0)[1])['instruments'][0]['rows'][0]
-            wait(lambda: row()[0] == 'failed' or not session._thread.is_alive())
+            wait(lambda: row()[0] == 'failed' or not session.is_alive)
             judge(f'{value}: the panel', ('failed', reason), (row()[0], str(row()[1]).split('(')[0]))
-            judge(f'{value}: the session goes on', True, session._thread.is_alive())
-            if session._thread.is_alive():
+            judge(f'{value}: the session goes on', True, session.is_alive)
+            if session.is_alive:
                 judge(f'{value}: its script', ['key 4'], keys_in(session.script()))
                 session.close()
 
@@ -914,11 +951,11 @@ def try_look():
         session.watch = 'none'  # is refused at each look
         session.play()
         shown = lambda: json.loads(session.news.since(0, 0)[1])['time']
-        wait(lambda: shown()['trouble'] or not session._thread.is_alive())
-        judge('the thread goes on', True, session._thread.is_alive())
-        if session._thread.is_alive():
+        wait(lambda: shown()['trouble'] or not session.is_alive)
+        judge('the thread goes on', True, session.is_alive)
+        if session.is_alive:
             wait(lambda: not shown()['playing'])
-            judge('time stands, and the page says why', (False, 'BadSpec'), (shown()['playing'], shown()['trouble'].split(':')[0]))
+            judge('time stands, and the page says why', (False, 'tables are seven octal numbers'), (shown()['playing'], shown()['trouble'].split(' with ')[0]))
             session.watch = None
             session.step()
             judge('the script', ['key 4'], keys_in(session.script()))
@@ -932,7 +969,7 @@ def try_rate():
     site = started(example('count-4', 'rope'), example('count-4', 'script'))
     site.do('speed', times=10)
     site.do('play')
-    messages = site.messages(2)
+    messages = first_good(lambda: site.messages(2), lambda found: 20 <= len(found) <= 102)
     figure('messages a second', len(messages) / 2)
     judge('at most fifty messages a second', True, 20 <= len(messages) <= 102)
     judge('most of them have another panel', True, sum('panel' in each for each in messages) > 20)
@@ -940,8 +977,8 @@ def try_rate():
 
 
 def first_good(measure, is_good):
-    """Measures until it is good, three times at most, as other programs may have the processors; returns the last."""
-    for _ in range(3):
+    """Measures until it is good, five times at most, as other programs may have the processors; returns the last."""
+    for _ in range(5):
         found = measure()
         if is_good(found):
             break
@@ -972,7 +1009,7 @@ def try_latency():
         addEventListener('keydown', () => { window.pressed = performance.now(); }, true);
         new MutationObserver(() => requestAnimationFrame(() => { if (window.pressed) { window.lit.push(performance.now() - window.pressed); window.pressed = 0; } }))
             .observe(document.querySelector('.display'), { attributes: true, subtree: true }); undefined""")
-    lit = first_good(lambda: light_times(page), lambda found: statistics.median(found) < 50)
+    lit = first_good(lambda: light_times(page), lambda found: len(found) == 20 and statistics.median(found) < 50)
     figure('milliseconds from key to light', f'median {statistics.median(lit):.1f}, least {min(lit):.1f}, most {max(lit):.1f} of {len(lit)}')
     judge('each key was lit', 20, len(lit))
     judge('a key lights within 50 milliseconds', True, statistics.median(lit) < 50)
@@ -983,9 +1020,10 @@ def try_latency():
 def light_times(page):
     """Presses twenty keys, and returns after how many milliseconds each was lit."""
     page.value('window.lit = []; undefined')
-    for key in '4271530986' * 2:
+    for number, key in enumerate('4271530986' * 2):
         page.type(key)
         time.sleep(0.25)
+        page.see('window.lit.length', number + 1)
     return page.value('window.lit')
 
 
@@ -1041,7 +1079,7 @@ def try_end():
     judge('the page says that it is over', True, wait(lambda: 'cannot be reached' in page.text('trouble')))
     page.close()
     again = subprocess.run([os.path.join(TOP, 'agc-web'), rope, '--save', saved], capture_output=True, text=True)
-    judge('a file with something in it is not written over', (1, f'agc-web: {saved} has something in it: name another file\n'), (again.returncode, again.stderr))
+    judge('a file with something in it is not written over', (1, f'agc-web: {saved}: has something in it: name another file\n'), (again.returncode, again.stderr))
 
 
 def try_blanks():
@@ -1079,7 +1117,7 @@ def try_command():
         return done.returncode, done.stdout, done.stderr.splitlines()[-1]
     judge('no such rope', (1, '', 'agc-web: cannot read rope'), run('/no/such/rope'))
     judge('tables that cannot be', (1, ''), run(example('verbs', 'rope'), '--watch', '1,2')[:2])
-    told = 'agc-web: BadSpec: tables are seven octal numbers with commas between'
+    told = 'agc-web: tables are seven octal numbers with commas between'
     judge('a cell is no table', (1, '', told), run(example('verbs', 'rope'), '--port', '0', '--watch', '0100'))
     judge('no rope', 2, run()[0])
     with socket.socket() as taken:
@@ -1134,9 +1172,8 @@ def try_gone():
     judge('what is held', 'left right', down())
     site.do('play')  # so that there are news, which find that a window has gone
     for window, wanted in (('one', 'right'), ('two', '')):
-        for each in windows[window]:
-            each.close()
-        wait(lambda: down() == wanted, 10)
+        windows[window].close()
+        wait(lambda: down() == wanted)
         judge(f'after window {window} has gone', wanted, down())
     site.end()
 
@@ -1180,18 +1217,14 @@ def try_lander():
     page.type('Space')
     page.state('running')
     page.window.key('ArrowRight', 'keyDown')
-    time.sleep(1)
+    judge('the held angle turns', True, wait(lambda: float(page.value(rows)['Held angle'][:-1]) > 3))
     picture(page, 'web-lander')
     page.window.key('ArrowRight', 'keyUp')
-    judge('the held angle turns', True, wait(lambda: float(page.value(rows)['Held angle'][:-1]) > 3))
     wait(lambda: float(page.value(rows)['Angle'][:-1]) > 3)
     page.window.key('ArrowRight', 'keyDown')
     page.see("document.querySelectorAll('.controls .held').length", 1)
     page.value("dispatchEvent(new Event('blur')); undefined")
-    time.sleep(0.3)
-    held = page.value(rows)['Held angle']
-    time.sleep(0.5)
-    judge('a window that loses the keyboard lets the button up', held, page.value(rows)['Held angle'])
+    judge('a window that loses the keyboard lets the button up', True, wait(lambda: stands(page, rows)))
     page.window.key('ArrowRight', 'keyUp')
     page.pause()
     compare_flight(page, site, rope, rows)
@@ -1199,17 +1232,24 @@ def try_lander():
     shown, end, script = page.value(rows), page.cycle(), site.script()
     site.do('go', cycle=60000, sure=True)
     settle(page)
-    judge('back to a tick of the craft', True, 60000 - 860 < page.cycle() <= 60000)
+    judge('back to this cycle, within an order', True, 60000 <= page.cycle() < 60006)
     compare_flight(page, site, rope, rows)
     site.do('undo')
     settle(page)
     judge('undo brings the craft back', (shown, end, script), (page.value(rows), page.cycle(), site.script()))
     site.do('play')
-    time.sleep(0.5)
+    page.run_on(TENTH)
     page.pause()
     compare_flight(page, site, rope, rows)
     page.close()
     site.end()
+
+
+def stands(page, rows):
+    """Whether the held angle stays for half a second of machine time, in which a button that is down turns it by 3 degrees."""
+    held, cycle = page.value(rows)['Held angle'], page.cycle()
+    wait(lambda: page.cycle() > cycle + A_SECOND / 2)
+    return page.value(rows)['Held angle'] == held and page.cycle() > cycle + A_SECOND / 2
 
 
 def compare_flight(page, site, rope, rows):
@@ -1247,7 +1287,7 @@ def try_late_view():
     judge('a view that fails', ['Late', 'failed'], page.see(panel, ['Late', 'failed']))
     site.do('step')
     wanted = ['The craft', '', 'Good', 'Turn']
-    judge('a good view', wanted, page.see(panel, wanted, 5))
+    judge('a good view', wanted, page.see(panel, wanted))
     page.close()
     site.end()
 
@@ -1386,12 +1426,12 @@ def compare_session(what, session, rope):
     """Compares a session that stands with the plain run of its script: an event of the present cycle is given there, too."""
     script, cycle = session.script(), session.console.cycle
     with replayed(rope, script, cycle) as console:
-        for event in [event for event in session.journal if event.cycle == cycle]:
+        for event in [event for event in session.journal.events if event.cycle == cycle]:
             console.step()
         wanted = (console.cycle, console.panel(), console.registers(), console.cells('0100', 8), console.next())
         found = session.inject(lambda machine: (machine.cycle, machine.panel(), machine.registers(), machine.cells('0100', 8), machine.next()))
     judge(what, wanted, found)
-    judge(f'{what}: the journal', sorted(script.splitlines()), sorted(f'{event.cycle} {event.command}' for event in session.journal))
+    judge(f'{what}: the journal', sorted(script.splitlines()), sorted(f'{event.cycle} {event.command}' for event in session.journal.events))
     last = [line for line in session.history if ' - key ' not in line and ' - pro ' not in line]
     if last:
         judge(f'{what}: the last boundary', True, cycle - 9 < int(last[-1].split(' ')[0]) < cycle)
@@ -1406,8 +1446,8 @@ def try_client():
         console.key('4')
         try:
             console.say('fly')
-        except Error as error:
-            heard.append(str(error).split(':')[0])
+        except Refused as refused:
+            heard.append(refused.name)
         judge('what was answered', [('go 10', 10), ('key 4', 10), 'UnknownCommand'], heard)
         with console.again() as other:
             other.go(1000)
@@ -1420,6 +1460,7 @@ def try_client():
 def try_install():
     """`pip install` of the client's folder needs no network, and gives the command and the page."""
     if not importlib.util.find_spec('ensurepip'):
+        print('skipped: the installation by pip, because there is no ensurepip')
         return
     home = os.path.join(FOLDER, 'installed')
     subprocess.run([sys.executable, '-m', 'venv', home], check=True)
@@ -1441,10 +1482,11 @@ def picture(page, name):
 
 
 TRIES = (
-    try_session, try_changes, try_pro, try_keys_rope, try_many_cells, try_sizes, try_policy, try_refusals, try_port,
+    try_session, try_changes, try_pro, try_keys_rope, try_many_cells, try_sizes, try_policy, try_ports, try_refusals, try_port,
     try_pace, try_writes, try_views, try_look, try_rate, try_latency, try_killed, try_end, try_blanks, try_two, try_command,
     try_serve, try_gone, try_hangup, try_lander, try_late_view, try_names_and_pictures, try_stop, try_random, try_face,
-    try_client, try_install,
+    try_client, try_install, *ends.TRIES, *rooms.TRIES, *times.TRIES, *views.TRIES, *buttons.TRIES, *filmed.TRIES, *found.TRIES,
+    *guides.TRIES, *whys.TRIES, *listens.TRIES, *looks.TRIES, *storms.TRIES,
 )
 
 
@@ -1453,15 +1495,13 @@ def main():
     for each in TRIES:
         if chosen and each.__name__ not in chosen.split(','):
             continue
-        try:
-            each()
-        except Exception as error:
-            judge(f'{each.__name__} goes on to its end', None, repr(error))
+        began = time.monotonic()
+        attempt(each)
+        figure(f'seconds of {each.__name__}', round(time.monotonic() - began, 1))
         Page.close_all()
         Site.kill_all()
-    print(f'{passed} passed, {failed} failed')
-    return 1 if failed else 0
+    finish()
 
 
 if __name__ == '__main__':
-    sys.exit(main())
+    main()

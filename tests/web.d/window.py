@@ -3,16 +3,30 @@ import base64
 import os
 import sys
 
+from site_of import wait
+
 sys.path.append(os.path.join(os.path.dirname(os.path.abspath(__file__)), '..', 'film.d'))
 import browser  # noqa: E402
 
 browser.FLAGS.append('--host-resolver-rules=MAP rebound.test 127.0.0.1, MAP * ~NOTFOUND, EXCLUDE 127.0.0.1')
+browser.LONGEST = 90  # seconds: other judges and proofs may run
 CODES = {'Enter': ('Enter', 13), 'Backspace': ('Backspace', 8), 'Tab': ('Tab', 9), 'Escape': ('Escape', 27), 'Space': (' ', 32)}
 TEXTS = {'Enter': '\r', 'Space': ' '}
 
 
 class Window(browser.Browser):
     """A page of a browser, with keys held and pictures taken."""
+
+    def new_tab(self):
+        """Opens another tab of the browser, and returns its session."""
+        usual, self.session = self.session, None
+        target = self.ask('Target.createTarget', url='about:blank')['targetId']
+        self.session = self.ask('Target.attachToTarget', targetId=target, flatten=True)['sessionId']
+        for part in ('Page', 'Runtime'):
+            self.ask(part + '.enable')
+        self.ask('Page.setLifecycleEventsEnabled', enabled=True)
+        tab, self.session = self.session, usual
+        return tab
 
     def key(self, name, kind):
         """Has a key of the keyboard go down ('keyDown') or come up ('keyUp')."""
@@ -28,8 +42,9 @@ class Window(browser.Browser):
             self.key(name, 'keyUp')
 
     def resize(self, width, height, scale=1):
-        """Makes the page as large as this."""
+        """Makes the page as large as this, and waits until it is."""
         self.ask('Emulation.setDeviceMetricsOverride', width=width, height=height, deviceScaleFactor=scale, mobile=False)
+        wait(lambda: self.value('[innerWidth, innerHeight]') == [width, height])
 
     def picture(self, path):
         """Writes what the window shows."""

@@ -1,0 +1,73 @@
+"""Paints the whole screen that agc-dsky should show, from a panel as agc prints it: docs/DSKY.md in two sizes.
+
+Digits are made of the segments that screen.py reads them by. All places are columns of a terminal, from 0 on.
+"""
+
+from screen import DIGITS, LAMPS, MEETING, WAYS
+
+CHARS = {"".join(sorted(ways)): char for char, ways in WAYS.items()}
+PLUS, MINUS = [" ╻ ", "╺╋╸", " ╹ "], ["   ", "╺━╸", "   "]
+KEYS = [
+    "  VERB  +  7  8  9  CLR     ENTR",
+    "  NOUN  -  4  5  6  PRO     RSET",
+    "        0  1  2  3  KEYREL",
+]
+LONG_HINT = " v n c k r p Enter 0-9 + -  space . Backspace < >  u w d U W D  i t s  q quit"
+SHORT_HINT = " v n c k r p Enter 0-9 + - space . < > u w d i t s q quit"
+# Where the digits are: line and column of the names and of the first digit, in the large picture and in the small one.
+LARGE_PAIRS = {"PROG": (0, 46, 1, 46), "VERB": (4, 30, 5, 30), "NOUN": (4, 46, 5, 46)}
+LARGE_REGISTERS = {"R1": (8, 30), "R2": (11, 30), "R3": (14, 30)}
+SMALL_FIELDS = {"PROG": (0, 46), "VERB": (2, 30), "NOUN": (2, 46), "R1": (4, 30), "R2": (5, 30), "R3": (6, 30)}
+
+
+def glyph(digit):
+    """The three lines of a digit or a sign."""
+    if digit in "+-":
+        return PLUS if digit == "+" else MINUS
+    lit = DIGITS[digit]
+    return ["".join(CHARS["".join(sorted(way for way, segment in place.items() if segment in lit))] for place in row) for row in MEETING]
+
+
+class Picture:
+    """A screen to paint on."""
+
+    def __init__(self, lines, columns):
+        self.rows = [[" "] * columns for _ in range(lines)]
+
+    def put(self, y, x, text):
+        self.rows[y][x:x + len(text)] = text
+
+    def put_digits(self, y, x, digits):
+        for at, digit in enumerate(digits):
+            for row, text in enumerate(glyph(digit)):
+                self.put(y + row, x + 4 * at, text)
+
+    def text(self):
+        return "\n".join("".join(row).rstrip() for row in self.rows)
+
+
+def painted(panel, size, below, is_large):
+    """The screen of a panel; `below` is what stands below the keys: the cycle, then the last two lines."""
+    picture = Picture(*size)
+    for name, (large, small, x) in LAMPS.items():
+        mark = "*" if name in panel["LAMPS"].split(", ") else " "
+        picture.put(large if is_large else small, x, mark + name)
+    if is_large:
+        for name, (y, x, first, left) in LARGE_PAIRS.items():
+            picture.put(y, x, name)
+            picture.put_digits(first, left, panel[name])
+        for name, (y, x) in LARGE_REGISTERS.items():
+            picture.put_digits(y, x, panel[name])
+    else:
+        for name, (y, x) in SMALL_FIELDS.items():
+            picture.put(y, x, f"{name} {panel[name]}")
+    first = 18 if is_large else 8
+    for at, row in enumerate([*KEYS, *below]):
+        picture.put(first + at, 0, row)
+    return picture.text()
+
+
+def below(cycle, speed, hint):
+    """The lines below the keys while time is stopped."""
+    tenths = cycle * 12 // 102400
+    return [f" CYCLE {cycle}", f" TIME {tenths // 10}.{tenths % 10} s  SPEED {speed}  PAUSED", hint]

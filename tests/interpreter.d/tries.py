@@ -1,0 +1,367 @@
+"""Tries of examples/interpreter: small programs in both halves of the memory, their results against double arithmetic."""
+
+import math
+import os
+import random
+import re
+import shutil
+import subprocess
+import sys
+from pathlib import Path
+
+import cases
+import chains
+import costs
+import language
+import lines
+import orbit
+import run
+from agc import Console
+from judge import CONSOLE, STUDY, TOP, attempt, check, finish, judge, near, scratch_folder
+from model import UNIT, Model, whole
+from programs import HIGH_BANKS, LOW_BANKS, Line, Program, always_in_reach, banks_full, scalar, text
+
+EXAMPLE = os.path.join(TOP, "examples", "interpreter")
+HERE = os.path.dirname(os.path.realpath(__file__))
+CELLS, BEGUN, SHOWN = 0o60, 0o55, 0o56  # the channels on which the driver writes
+MOST_CYCLES = 20_000_000  # more than all programs of a rope take
+WORKAREA, STATE = 0o200, 0o55  # the work area's address, and the first word of switches behind it
+SEED, CHAINS = int(os.environ.get("SEED", 1)), int(os.environ.get("CHAINS", 200))
+OLD = b"no order or directive has this name"
+scratch = scratch_folder()
+
+
+def weave(folder, name):
+    """Weaves a source of a folder. Returns the weaver's end, and the path of the rope, which has its names beside it."""
+    rope = os.path.join(folder, "rope")
+    with open(rope, "wb") as file:
+        words = [STUDY, "weave", os.path.join(folder, name), "--write-names", rope + ".names", "--force"]
+        return subprocess.run(words, stdout=file, stderr=subprocess.PIPE), rope
+
+
+def copied(folder):
+    """Copies the example's sources to a new folder, and returns it."""
+    os.mkdir(folder)
+    for name in os.listdir(EXAMPLE):
+        if name.endswith(".agc"):
+            shutil.copy(os.path.join(EXAMPLE, name), folder)
+    return folder
+
+
+def woven(placed, folder, source=None):
+    """Weaves the interpreter, the driver and some programs. Returns the path of the rope."""
+    shutil.copy(os.path.join(HERE, "driver.agc"), copied(folder))
+    with open(os.path.join(folder, "programs.agc"), "w") as file:
+        file.write(source or text(placed))
+    done, rope = weave(folder, "driver.agc")
+    judge(f"{os.path.basename(folder)} is woven", (0, b""), (done.returncode, done.stderr))
+    return rope
+
+
+def included(source):
+    """The names of the files that a source includes."""
+    names = re.findall(r"^\$(\S+)", source, re.M)
+    return [*names, *(more for name in names for more in included(read(name)))]
+
+
+def woven_by_lines(folder, name, change=lambda text: text, own=None):
+    """Weaves a source of the example, or an own one, with the words of `lines` for its interpretive lines. Returns the path of
+    the rope."""
+    copied(folder)
+    own = own or read(name)
+    sources = {name: change(own), **{each: change(read(each)) for each in included(own)}}
+    places = None
+    for _ in range(2):
+        for each, source in sources.items():
+            with open(os.path.join(folder, each), "w") as file:
+                file.write(lines.woven(source, places))
+        done, rope = weave(folder, name)
+        judge(f"{name} is woven", (0, b""), (done.returncode, done.stderr))
+        with open(rope + ".names") as file:
+            places = lines.Places(file.read())
+    return rope
+
+
+class Found:
+    """What a program has left: cells by their addresses, as the driver writes them, each block from its last cell down."""
+
+    def __init__(self, words):
+        blocks = []
+        for count in (11, 1, 57, 24, 12):
+            blocks.append(words[:count][::-1])
+            words = words[count:]
+        self.mpac, (self.mode, self.loc, self.banks, self.pushed), (self.overflow,) = blocks[0][:7], blocks[0][7:], blocks[1]
+        self.cells = {}
+        for first, block in zip((0, cases.RESULT, cases.LOWER), blocks[2:]):
+            self.cells.update(enumerate(block, first))
+
+    def number(self, words):
+        return sum(whole(word) * 2.0 ** (-14 * (n + 1)) for n, word in enumerate(words))
+
+    def accumulator(self):
+        if whole(self.mode) < 0:
+            return [self.number(self.mpac[n:n + 2]) for n in (0, 3, 5)]
+        return self.number(self.mpac[:3])
+
+    def value(self, address, words):
+        return self.number([self.cells[address + n] for n in range(words)])
+
+    def switches(self):
+        """The numbers of the switches that are on."""
+        words = [self.cells[STATE + n] for n in range(12)]
+        return {15 * n + bit for n, word in enumerate(words) for bit in range(15) if word >> (14 - bit) & 1}
+
+
+def results(rope):
+    """Runs a rope. Returns what each program has left, and the last number that the driver wrote."""
+    found, words, number = [], [], 0
+    with Console(rope, program=[CONSOLE]) as console:
+        while console.cycle < MOST_CYCLES:
+            writes = console.go(300_000)
+            for write in writes:
+                if write.channel == CELLS:
+                    words.append(write.value)
+                elif write.channel == BEGUN:
+                    if write.value != len(found):
+                        return found, f"after program {number} the driver begins {write.value}"
+                    words, number = [], write.value
+                elif write.channel == SHOWN:
+                    found.append(Found(words))
+                else:
+                    return found, None
+            if not writes:
+                break
+        cells = console.cells("0100", 0o70)
+        return found, f"program {number} stays, CODE {cells[3]:o}, LOC {cells[0o64]:o}, BANKSET {cells[0o65]:o}"
+
+
+def close(what, wanted, found):
+    """Checks a number against the model's."""
+    return check(f"{what}: {found / UNIT:.2f} units is not {wanted.number / UNIT:.2f}, +-{wanted.error / UNIT:.2f}",
+                 abs(found - wanted.number) <= wanted.error + UNIT / 100)
+
+
+def compare(half, program, found):
+    """Checks what a program has left."""
+    model = Model().run(program)
+    sure = model.mode == whole(found.mode) and model.overflow == (found.overflow not in (0, 0o77777))
+    check(f"{half}, {program.name}: mode {found.mode:o}, overflow {found.overflow:o}", sure)
+    if not sure:
+        return
+    if model.mode < 0:
+        for n, (wanted, part) in enumerate(zip(model.mpac, found.accumulator())):
+            close(f"{half}, {program.name}: MPAC's part {n}", wanted, part)
+    else:
+        close(f"{half}, {program.name}: MPAC", model.mpac, found.accumulator())
+    for address, (value, words) in model.memory.items():
+        close(f"{half}, {program.name}: {address:o}", value, found.value(address, words))
+    judge(f"{half}, {program.name}: the push-down list", model.top, found.pushed - WORKAREA)
+    words = {address: whole(found.cells[address]) for address in model.words}
+    judge(f"{half}, {program.name}: single words", model.words, words)
+    judge(f"{half}, {program.name}: switches", model.switches, found.switches())
+
+
+def in_both_halves(programs, name):
+    """Runs programs in each half of the memory, and checks what they leave."""
+    for half, banks in (("low", LOW_BANKS), ("high", HIGH_BANKS)):
+        found, why = results(woven(banks_full(programs, banks), os.path.join(scratch, name + half)))
+        judge(f"{half}: all programs end", (len(programs), None), (len(found), why))
+        for program, each in zip(programs, found):
+            compare(half, program, each)
+
+
+def try_programs():
+    """Small programs."""
+    programs = cases.programs()
+    check(f"the page says {len(programs)} programs", f"{len(programs)} small programs" in read("README.md"))
+    run_codes = {language.OPERATIONS[name][0] for each in programs for line in each.statements if isinstance(line, Line) for name in line.names}
+    judge("operations that no program has", [], [name for name, (code, _) in language.OPERATIONS.items() if code not in run_codes])
+    for n in range(0, len(programs), 400):  # more may not fit into a rope
+        in_both_halves(programs[n:n + 400], f"small{n}")
+
+
+def try_chains():
+    """Programs of many random operations."""
+    programs = list(chains.programs(random.Random(SEED), CHAINS))
+    for n in range(0, CHAINS, 30):  # more may not fit into a rope
+        in_both_halves(programs[n:n + 30], f"chains{n}")
+
+
+def try_fixed_fixed():
+    """Programs in bank 03 at addresses from 6000 on, which need no bank."""
+    names = ("DDV 0", "UNIT 1", "CALL", "STQ", "CGOTO 1", "CCALL 2", "SET BON 15", "TIX,1", "VXSC pops 1")
+    programs = [program for program in cases.programs() if program.name in names]
+    judge("there are such programs", len(names), len(programs))
+    encoders, source = always_in_reach(programs)
+    found, why = results(woven(encoders, os.path.join(scratch, "fixed"), source))
+    judge("bank 03: all programs end", (len(programs), None), (len(found), why))
+    for program, each in zip(programs, found):
+        check(f"bank 03, {program.name}: LOC", each.loc >= 0o6000 or program.name in ("CALL", "STQ", "CGOTO 1", "CCALL 2", "SET BON 15", "TIX,1"))
+        compare("bank 03", program, each)
+
+
+def measured():
+    """The table of what the operations cost."""
+    rope = woven(banks_full(costs.programs(), LOW_BANKS), os.path.join(scratch, "costs"))
+    trace = [STUDY, "trace", rope, os.devnull, "--limit", "400000", "--names", rope + ".names"]
+    return costs.table(costs.costs(subprocess.run(trace, capture_output=True, text=True, check=True).stdout.splitlines()))
+
+
+def read(name, mode="r"):
+    with open(os.path.join(EXAMPLE, name), mode) as file:
+        return file.read()
+
+
+def try_costs():
+    """The page's table of costs is what is measured."""
+    judge("the page's costs", "\n".join(measured()), read("README.md").partition("# Operations")[2].split("\n\n")[2])
+
+
+def try_rope():
+    """The ropes and their names are those of the sources, and the page counts the interpreter's words."""
+    for source, rope, names in (("main.agc", "rope", "names"), ("orbit.agc", "orbit.rope", "orbit.names")):
+        made = woven_by_lines(os.path.join(scratch, source), source)
+        judge(f"{rope} is that of its source", read(rope, "rb"), Path(made).read_bytes())
+        judge(f"so are {names}", read(names), Path(made + ".names").read_text())
+        done = subprocess.run([STUDY, "weave", os.path.join(EXAMPLE, source)], capture_output=True)
+        if OLD in done.stderr:
+            print("skipped: this agc-study weaves no interpretive lines", flush=True)
+        else:
+            judge(f"agc-study weaves {rope}", (read(rope, "rb"), b""), (done.stdout, done.stderr))
+    woven_words = read("rope", "rb")
+    words = [int.from_bytes(woven_words[n:n + 2], "big") >> 1 for n in range(0, 4096, 2)]
+    place = {name: int(place[3:], 8) - 0o4000 for place, name in map(str.split, read("names").splitlines()) if place[0] == "0"}
+    ends = [max(n for n in range(first, first + 1024) if words[n]) + 1 for first in (0, 1024)]
+    count = f"{ends[0] - place['INTPRET'] + ends[1] - 1024:,} words"
+    check(f"the page says {count}", count in read("README.md"))
+
+
+def try_page():
+    """The words on the page are the encoder's, and the program finds what was worked out by hand."""
+    rows = re.findall(r"^\| 04,(\d+) \| (\d+) \|", read("README.md"), re.M)
+    places = {name: 0o4 * 0o2000 + place - 0o2000 for name, place in (("R", 0o2014), ("SITE", 0o2022), ("V", 0o2030))}
+    words = [language.pair("VLOAD", "VSU"), language.address(places["R"], True), language.address(places["SITE"], True)]
+    words += [language.pair("UNIT", "DOT"), language.address(places["V"], True), language.pair("SL1"), language.store("STODL", 0o1402)]
+    words += [language.address(36, False), language.store("STORE", 0o1400), language.pair("EXIT")]
+    judge("the page's words", [(f"{0o2001 + n:o}", f"{word:05o}") for n, word in enumerate(words)], rows[1:-1])
+    with Console(os.path.join(EXAMPLE, "rope"), names=os.path.join(EXAMPLE, "names"), program=[CONSOLE]) as console:
+        judge("the program ends", True, console.until("STAY", 100_000).came)
+        distance, rate = (sum(whole(word) / 16384 ** n for n, word in enumerate(console.cells(name, 2), 1)) for name in ("RANGE", "RATE"))
+        near("RANGE", 500_000, distance * 2**20, 0.01)
+        near("RATE", -320, rate * 2**11, 0.0001)
+        judge("the page's cycle", True, f"at {console.cycle}" in read("README.md"))
+
+
+def accelerated(place):
+    return [-orbit.MU * part / orbit.size(place) ** 3 for part in place]
+
+
+def integrated(place, speed, seconds, step=10.0):
+    """The state some seconds later, by Runge and Kutta's steps of fourth order."""
+    steps = max(1, round(seconds / step))
+    step = seconds / steps
+    for _ in range(steps):
+        slopes, at = [], (place, speed)
+        for part in (0.5, 0.5, 1, 0):
+            slopes.append((at[1], accelerated(at[0])))
+            at = tuple([old + part * step * slope for old, slope in zip(one, more)] for one, more in zip((place, speed), slopes[-1]))
+        place, speed = (
+            [old + step / 6 * (a + 2 * b + 2 * c + d) for old, a, b, c, d in zip(one, *(slope[n] for slope in slopes))]
+            for n, one in enumerate((place, speed)))  # fmt: skip
+    return place, speed
+
+
+# Apolune and perilune in nautical miles, seconds since perilune, degrees of inclination, seconds of the step
+ORBITS = (
+    (60, 60, 0, 0, 600), (60.2, 59.8, 2000, 90, 7000), (60, 8.3, 3300, 5, 3000), (60, 8.3, 100, 175, 6500), (170, 60, 600, 10, 1800),
+    (500, 20, 5000, 45, 4000), (1500, 30, 2000, 120, 9000), (4500, 60, 20000, 30, 20000), (9000, 60, 600, 20, 50000),
+    (9500, 20, 90000, 60, 1000), (9900, 9, 40000, 80, 70000), (200, -5, 4000, 33, 2500),
+)  # fmt: skip
+BURN = (-20.0, 3.0, 1.5)
+
+
+def try_orbit():
+    """Verb 82, the step and the burn against an integration, with the program in each half of the memory."""
+    for half, bank in (("low", 5), ("high", 25)):
+        rope = woven_by_lines(os.path.join(scratch, f"orbit{half}"), "orbit.agc", lambda source: source.replace("BANK    5\n", f"BANK    {bank}\n"))
+        with orbit.Orbit(rope, rope + ".names", program=[CONSOLE]) as console:
+            for each in ORBITS:
+                fly(console, f"{half}, {each}", *each)
+
+
+def fly(console, title, apolune, perilune, since, inclination, step):
+    place, speed = orbit.state(apolune * orbit.MILE, perilune * orbit.MILE, since, math.radians(inclination))
+    console.load(place, speed, step, BURN)
+    console.press("ENTR")
+    check_shown(title, console, place, speed)
+    console.press("+")
+    place, speed = integrated(place, speed, step)
+    off = 8 if apolune < 5000 else 25  # m
+    for what, wanted, name, scale, most in (("place", place, "RVEC", orbit.PLACE, off), ("speed", speed, "VVEC", orbit.SPEED, 0.01)):
+        found = console.vector(name, scale)
+        near(f"{title}, + : the {what}", 0, max(abs(one - other) for one, other in zip(wanted, found)), most)
+    check_shown(f"{title}, +", console, place, speed)
+    console.press("-")
+    speed = orbit.burnt(place, speed, BURN)
+    near(f"{title}, - : the speed", 0, max(abs(one - other) for one, other in zip(speed, console.vector("VVEC", orbit.SPEED))), 0.01)
+    check_shown(f"{title}, -", console, place, speed)
+
+
+def check_shown(title, console, place, speed):
+    """Checks the registers against double arithmetic: a tenth of a mile, and a second; a perilune of a circle has no time."""
+    far, low, left, period = orbit.elements(place, speed)
+    shown = console.shown()
+    near(f"{title}: apolune", min(far, 9999.9 * orbit.MILE), shown[0], 0.1 * orbit.MILE)
+    near(f"{title}: perilune", low, shown[1], 0.1 * orbit.MILE)
+    if far - low > 1000 and left < 99_000:
+        off = abs(left - shown[2]) % period
+        near(f"{title}: to perilune", 0, min(off, period - off), 1)
+
+
+def try_countdown():
+    """R3 counts the seconds."""
+    with orbit.Orbit(program=[CONSOLE]) as console:
+        console.load(*orbit.state(314840, 111120, 600, 0))
+        console.press("ENTR")
+        before = console.shown()[2]
+        console.go(round(10.5 * 256000 / 3))
+        judge("ten seconds later", before - 10, console.shown()[2])
+
+
+def try_tutorial():
+    """The tutorial's programs leave the numbers that the page shows."""
+    block = r"[Aa]s `(\w+\.agc)`:\n\n```\n(.*?)```\n\n    \$ \S+/run\.py \S+/(\w+\.agc) (.*?)\n(.*?)\n\n"
+    found = re.findall(block, read("TUTORIAL.md"), re.S)
+    judge("steps", read("TUTORIAL.md").count("\n## "), len(found))
+    for name, source, again, wanted, shown in found:
+        rope = woven_by_lines(os.path.join(scratch, "step-" + name), name, own=source)
+        judge(f"{name}: the command's file", name, again)
+        judge(name, [each.strip() for each in shown.splitlines()], run.lines(rope, rope + ".names", wanted.split(), program=[CONSOLE]))
+
+
+def try_unknown():
+    """A code without an operation, and a word without a meaning, stop the machine."""
+    for word, trap in ((0o77777 - 0o167, "BADCODE"), (0o77777 - 0o166, "BADCODE"), (0, "BADWORD"), (0o77777, "BADWORD")):
+        encoder = banks_full([Program("unknown", Line("DLOAD", scalar(0.5)))], LOW_BANKS)[0]
+        encoder.words[2] = word
+        rope = woven([encoder], os.path.join(scratch, f"unknown{word:o}"))
+        with Console(rope, names=rope + ".names", program=[CONSOLE]) as console:
+            judge(f"{word:05o}: {trap}", True, console.until(trap, 20_000).came)
+            judge(f"{word:05o}: it stays there", trap, console.where().order.name)
+            judge(f"{word:05o}: LOC", 0o2003 + (trap == "BADCODE"), console.cell("LOC"))
+            if trap == "BADCODE":
+                judge(f"{word:05o}: CODE", 0o77777 - word - 1, console.cell("CODE"))
+
+
+def main():
+    if sys.argv[1:] == ["costs"]:
+        print("\n".join(measured()))
+        sys.exit()
+    for each in (try_programs, try_chains, try_fixed_fixed, try_costs, try_rope, try_page, try_orbit, try_countdown, try_tutorial, try_unknown):
+        if len(sys.argv) == 1 or each.__name__ in sys.argv[1:]:
+            attempt(each)
+    finish()
+
+
+if __name__ == "__main__":
+    main()

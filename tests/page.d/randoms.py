@@ -1,0 +1,124 @@
+"""Random sessions on agc.html, by the acts and comparisons that tests/web has for sessions in Python."""
+import os
+import random
+from collections import namedtuple
+
+from agc import Registers
+from agc_web.journal import Event
+from local import LocalPage, LocalSite, web
+from site_of import example
+
+SESSIONS, ACTS = int(os.environ.get('SESSIONS', 3)), 25
+Seen = namedtuple('Seen', 'cycle')
+
+
+class PageSession:
+    """The session of a page, as tests/web's acts use one in Python."""
+
+    def __init__(self, site):
+        self.site = site
+        self.journal = self
+        self.breakpoints = []
+
+    def _do(self, command, **more):
+        answer = self.site.value(f'session.do({web.json.dumps(command)}, {web.json.dumps(more)})')
+        if answer['status'] == 409:
+            raise web.Unable(answer['error'])
+        if answer['status'] != 200:
+            raise ValueError(answer)
+
+    @property
+    def console(self):
+        return Seen(self.site.state()['time']['cycle'])
+
+    @property
+    def history(self):
+        return self.site.state()['history']
+
+    @property
+    def events(self):
+        lines = self.site.value('engine.events')
+        return [Event(int(line.lstrip('~').split(' ')[0]), line.split(' ', 1)[1], line[0] != '~') for line in lines]
+
+    def script(self):
+        return self.site.script()
+
+    def press(self, name):
+        if name.startswith('PRO'):
+            self._do('pro', down=name == 'PRO')
+        else:
+            self._do('key', name=name)
+
+    def play(self):
+        self._do('play')
+
+    def pause(self):
+        self._do('pause')
+
+    def step(self):
+        self._do('step')
+
+    def go_there(self, cycle, sure=False):
+        self._do('go', cycle=cycle, sure=sure)
+
+    def go_back_to_change(self, sure):
+        self._do('back', sure=sure)
+
+    def undo(self, sure):
+        self._do('undo', sure=sure)
+
+    def set_speed(self, times):
+        self._do('speed', times=times)
+
+    def add_breakpoint(self, place):
+        self._do('break', place=place)
+        self.breakpoints.append(place)
+
+    def remove_breakpoint(self, place):
+        self._do('unbreak', place=place)
+        self.breakpoints.remove(place)
+
+    def inject(self, task):
+        return task(View(self.site))
+
+
+class View:
+    """What a page shows of its machine, as a console has it."""
+
+    def __init__(self, site):
+        self.site, self.parts = site, site.state()
+        self.cycle = self.parts['time']['cycle']
+
+    def panel(self):
+        return self.parts['panel']
+
+    def registers(self):
+        return Registers(**self.parts['machine']['registers'])
+
+    def next(self):
+        return self.parts['machine']['next']
+
+    def cells(self, place, count):
+        places = [f'{int(place, 8) + number:04o}' for number in range(count)]
+        return list(self.site.value(f"session.look({{ cells: {places} }}).then((seen) => {places}.map((place) => seen.cells[place]))"))
+
+
+def try_random():
+    """Whatever is pressed, stepped, gone back and undone, the script repeats it."""
+    rope = example('verbs', 'rope')
+    page = LocalPage(LocalSite(rope))
+    for seed in range(SESSIONS):
+        if seed:
+            page.site.open()
+        chance, session = random.Random(seed), PageSession(page.site)
+        done, dropped = [], []
+        for _ in range(ACTS):
+            before = session.script().splitlines()
+            done.append(web.random_act(session, chance))
+            what = f'random session {seed} after {done[-3:]}'
+            web.compare_session(what, session, rope)
+            web.compare_scripts(what, done[-1], before, session, dropped)
+    page.close()
+
+
+TRIES = (try_random,)

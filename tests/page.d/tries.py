@@ -1,0 +1,132 @@
+"""Tries agc.html from its file, without a network: tests/web's cases of a user, and what the file alone has.
+
+What is wanted is worked out by hand from the examples' sources and from docs/WEB.md, or is what agc and agc-console make of
+the script that the page lets one download.
+"""
+import os
+import shutil
+import subprocess
+import time
+
+import flights
+import opening
+import randoms
+from firefox import Firefox
+from judge import TOP, attempt, finish, judge
+from local import FILE, LocalPage, LocalSite, web
+from site_of import example, keys_in, wait
+
+
+def try_made():
+    """The file is what launch/page makes of the page, the examples and the prebuilt program."""
+    done = subprocess.run([os.path.join(TOP, 'launch', 'page'), '--check'], capture_output=True, text=True)
+    judge('agc.html', (0, '2 passed, 0 failed\n', ''), (done.returncode, done.stdout, done.stderr))
+    judge('at most 5 MB', True, os.path.getsize(FILE) <= 5_000_000)
+
+
+def try_session():
+    """What a user does on the page of agc-web; nothing is requested but the file, and what it has inside."""
+    rope = example('verbs', 'rope')
+    page = LocalPage(LocalSite(rope))
+    requests = [event['params']['request']['url'] for event in page.window.events if event['method'] == 'Network.requestWillBeSent']
+    judge('what is requested', [], [url for url in requests if not url.startswith((f'file://{FILE}', 'blob:null/', 'data:'))])
+    web.session_of(page, rope)
+    page.close()
+
+
+class FirstPage(LocalPage):
+    """The page in a browser that has kept nothing, with what it opens by itself."""
+
+    def load(self, url=None):
+        self.site.page = self
+        self.open_file()
+
+
+def try_example():
+    """The page begins with VERB 35 at hand, paused at cycle 0."""
+    page = FirstPage(LocalSite(example('verbs', 'rope')))
+    judge('paused at cycle 0', ('paused', 0), (page.state('paused'), page.cycle()))
+    judge('the title', 'Verbs and nouns', page.see("document.getElementById('rope').textContent", 'Verbs and nouns'))
+    page.close()
+
+
+def try_words():
+    """Memory, cells, channels and breakpoints on the rope that shows each key in NOUN."""
+    site = LocalSite(example('keys', 'rope'), '--names', example('console', 'names', 'names'))
+    page = LocalPage(site)
+    page.type('Space')
+    page.state('running')
+    page.type('4', '2')
+    wanted = web.film.segments_of(web.film.panel(NOUN='42'))
+    judge('the page shows 42', wanted, page.see("Look.places('left')", wanted))
+    page.pause()
+    web.try_words(page)
+    web.try_breaks(page, site)
+    judge('keys', [f'key {name}' for name in '427135'], keys_in(site.script()))
+    page.close()
+
+
+def try_fallbacks():
+    """A browser that cannot suspend a module, or has no memory with 64-bit addresses, runs the module that stops by itself."""
+    lit = web.film.segments_of(web.film.panel(PROG='88', VERB='88', NOUN='88', R1='+88888', R2='+88888', R3='+88888'))
+    for what, before in (('suspension', 'delete WebAssembly.Suspending;'), ('wide memories', 'WebAssembly.validate = () => false;')):
+        LocalPage.before = before
+        page = LocalPage(LocalSite(example('verbs', 'rope')))
+        LocalPage.before = ''
+        judge(f'without {what} the other module runs', False, page.value('SUSPENDS'))
+        page.type('Space', 'v', '3', '5', 'Enter')
+        judge(f'without {what} all is lit', lit, page.see("Look.places('left')", lit))
+        page.pause()
+        web.compare_with_agc(f'without {what}', page, example('verbs', 'rope'))
+        page.close()
+
+
+def try_firefox():
+    """The same page in Firefox: VERB 35, the script, and a reload."""
+    home = os.path.join(LocalPage.folder(), 'firefox')
+    os.mkdir(home)
+    page = Firefox(shutil.which('firefox-esr'), home)
+    state = lambda: page.value("document.getElementById('state').textContent")
+    page.load(f'file://{FILE}')
+    judge('Firefox: it begins paused', True, wait(lambda: state() == 'paused', 90))
+    judge('Firefox suspends the module', True, page.value('SUSPENDS'))
+    page.type('Space', 'v', '3', '5', 'Enter')
+    judge('Firefox: all is lit', True, wait(lambda: page.value('shown.panel.R3') == '+88888', 90))
+    page.type('Space')
+    wait(lambda: state() == 'paused', 90)
+    script, cycle, panel = page.value('session.script()'), page.value('shown.time.cycle'), page.value('shown.panel')
+    judge('Firefox: the keys', ['key VERB', 'key 3', 'key 5', 'key ENTR'], keys_in(script))
+    lines = web.agc_panel(example('verbs', 'rope'), script, cycle)[2]
+    judge('Firefox: the panel is that of agc', lines, [f'{name} {text}' for name, text in panel.items()])
+    page.value('keepNow()')
+    page.reload()
+    wait(lambda: state() == 'paused', 90)
+    judge('Firefox: a reload keeps it', (script, cycle, panel), (page.value('session.script()'), page.value('shown.time.cycle'), page.value('shown.panel')))
+    page.close()
+
+
+TRIES = (
+    try_made, try_session, try_example, web.try_changes, web.try_stop, web.try_sizes, try_words, try_fallbacks, *flights.TRIES, *randoms.TRIES,
+    *opening.TRIES,
+)
+
+
+def main():
+    chosen = os.environ.get('TRY')
+    has_firefox = shutil.which('firefox-esr') is not None
+    if not has_firefox:
+        print('skipped: the page in Firefox, because there is no firefox-esr')
+        judge('Firefox is there in CI', False, os.environ.get('CI') == 'true')
+    for each in (*TRIES, *[try_firefox] * has_firefox):
+        if chosen and each.__name__ not in chosen.split(','):
+            continue
+        began = time.monotonic()
+        attempt(each)
+        web.figure(f'seconds of {each.__name__}', round(time.monotonic() - began, 1))
+        web.Page.close_all()
+        LocalPage.close_all()
+    finish()
+
+
+if __name__ == '__main__':
+    main()
