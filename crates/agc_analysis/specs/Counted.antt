@@ -2,7 +2,7 @@
 use Rattle.std.specs.Prelude.{◌≡◌, ℕ, List, Option, None}
 use Rattle.agc_machine.specs.State.{State}
 use Rattle.agc_profile.specs.Profile.{count_of}
-use Rattle.agc_profile.specs.Step.{passages_in}
+use Rattle.agc_profile.specs.Step.{steps_in}
 use Rattle.agc_analysis.specs.declared.counts.Profiled.{Profiled}
 use Rattle.agc_study_args.specs.declared.args.ProfileArgs.{ProfileArgs}
 use Rattle.agc_study_args.specs.Started.{IsStarted}
@@ -11,5 +11,5 @@ use Rattle.agc_study_args.specs.Started.{IsStarted}
 pub record IsCounted (args : ProfileArgs) (rope script : Option (List ℕ)) (profiled : Profiled) : Type 0 where
   pub machine : State
   pub start : IsStarted args.options None rope script machine
-  pub profile : profiled.profile ≡ count_of (passages_in args.span machine)
+  pub profile : profiled.profile ≡ count_of (steps_in args.span machine)
   pub same_rope : profiled.machine.processor.store.fixed ≡ machine.processor.store.fixed

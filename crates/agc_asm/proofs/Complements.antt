@@ -4,7 +4,7 @@ use Rattle.std.proofs.Common.{refl}
 use Rattle.agc_word.specs.Number.{Number}
 use Rattle.agc_listing.specs.Number.{begins_with_minus}
 use Rattle.agc_asm.specs.Body.{alias_named, spelled, spelled_by, without_minus, writes_nothing}
-use Rattle.agc_asm.specs.Encode.{complemented, complemented_pair, complemented_word, less_than_zero, lowered, order_meaning, encode_pair, pair_spelled, plain_meaning, encode_word}
+use Rattle.agc_asm.specs.Encode.{complemented, complemented_pair, complemented_word, offset_below_zero, lowered, encode_order, encode_pair, pair_spelled, plain_meaning, encode_word}
 use Rattle.agc_asm.specs.Mnemonic.{directive_named}
 use Rattle.agc_asm.specs.Name.{Naming}
 use Rattle.agc_asm.specs.declared.encode.Banks.{Banks}
@@ -53,8 +53,8 @@ as_it_is (Err why) = refl
 as_it_is (Ok word) = refl
 
 pub adds_offset : (naming : Naming) (here : ℕ) (leads : Bool) (banks : Banks) (name : List ℕ) (rest : List (List ℕ)) (less : ℕ) → begins_with_minus name ≡ false
-    → alias_named name ≡ None → directive_named name ≡ None → less_than_zero rest ≡ Some less
-    → encode_word naming here leads banks (name ∷ rest) ≡ lowered less (order_meaning naming here leads name (codes "0" ∷ []))
+    → alias_named name ≡ None → directive_named name ≡ None → offset_below_zero rest ≡ Some less
+    → encode_word naming here leads banks (name ∷ rest) ≡ lowered less (encode_order naming here leads name (codes "0" ∷ []))
 unfolding encode_word spelled
 adds_offset naming here leads banks name rest less plain own order below =
-    rw (plain, no_minus name plain, own, order, below) (as_it_is (lowered less (order_meaning naming here leads name (codes "0" ∷ []))))
+    rw (plain, no_minus name plain, own, order, below) (as_it_is (lowered less (encode_order naming here leads name (codes "0" ∷ []))))

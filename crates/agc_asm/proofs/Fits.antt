@@ -18,7 +18,7 @@ use Rattle.agc_asm.specs.declared.fault.SourceFault.{SourceFault}
 use Rattle.agc_asm.specs.declared.mnemonic.Directive.{Directive}
 use Rattle.agc_asm.specs.declared.mnemonic.Directive.TheVariants as directive
 use Rattle.agc_listing.specs.declared.number.Signed.{Signed}
-use Rattle.agc_asm.specs.Encode.{channel_of, downlink_word, list_address, pair_for_fb, starred_bank_word, adres_word, any_address, bank_word, basic_with, bbcon_word, cadr_word, cell_in, complemented, complemented_pair, complemented_some, complemented_word, directive_meaning, ecadr_word, extracode_with, if_basic, if_extracode, less_than_zero, lowered, major_mode, major_mode_in, operand_fault, number_word, octal_in, octal_pair_in, or_bad_number, order_by_offset, order_meaning, pair_by, pair_by_word, encode_pair, pair_of_number, pair_of_octal, pair_of_place, pair_spelled, place_in, plain_meaning, unless_fault, verb_noun, verb_noun_in, word_by, encode_word}
+use Rattle.agc_asm.specs.Encode.{channel_of, downlink_word, list_address, pair_for_fb, starred_bank_word, adres_word, any_address, bank_word, basic_with, bbcon_word, cadr_word, cell_in, complemented, complemented_pair, complemented_some, complemented_word, directive_meaning, ecadr_word, extracode_with, if_basic, if_extracode, offset_below_zero, lowered, major_mode, major_mode_in, operand_fault, number_word, octal_in, octal_pair_in, or_bad_number, order_by_offset, encode_order, pair_by, pair_by_word, encode_pair, pair_of_number, pair_of_octal, pair_of_place, pair_spelled, place_in, plain_meaning, unless_fault, verb_noun, verb_noun_in, word_by, encode_word}
 use Rattle.agc_asm.specs.Body.{alias_in, has_minus, spelled}
 use Rattle.agc_asm.specs.Numeral.{number_in}
 use Rattle.agc_asm.specs.declared.alias.Alias.{Alias}
@@ -69,7 +69,7 @@ if_extracode_fits : (naming : Naming) (here : ℕ) (order : Option Extracode) (w
 if_extracode_fits naming here (Some order) word words = extracode_fits order (operand_for (extracode_row order).takes naming here words)
 if_extracode_fits naming here None word words = tt
 
-order_fits : (naming : Naming) (here : ℕ) (leads : Bool) (word : List ℕ) (words : List (List ℕ)) → IfOk (order_meaning naming here leads word words) Fits
+order_fits : (naming : Naming) (here : ℕ) (leads : Bool) (word : List ℕ) (words : List (List ℕ)) → IfOk (encode_order naming here leads word words) Fits
 order_fits naming here true word words = if_extracode_fits naming here (extracode_named word) word words
 order_fits naming here false word words = if_basic_fits naming here (basic_named word) word words
 
@@ -186,11 +186,11 @@ lowered_fits less (Err why) = tt
 
 offset_fits : (naming : Naming) (here : ℕ) (leads : Bool) (less : Option ℕ) (word : List ℕ) (words : List (List ℕ)) → IfOk (order_by_offset naming here leads less word words) Fits
 offset_fits naming here leads None word words = order_fits naming here leads word words
-offset_fits naming here leads (Some less) word words = lowered_fits less (order_meaning naming here leads word (codes "0" ∷ []))
+offset_fits naming here leads (Some less) word words = lowered_fits less (encode_order naming here leads word (codes "0" ∷ []))
 
 by_fits : (naming : Naming) (here : ℕ) (leads : Bool) (banks : Banks) (d : Option Directive) (word : List ℕ) (words : List (List ℕ)) → IfOk (word_by naming here leads banks d word words) Fits
 by_fits naming here leads banks (Some d) word words = directive_fits naming here banks d words
-by_fits naming here leads banks None word words = offset_fits naming here leads (less_than_zero words) word words
+by_fits naming here leads banks None word words = offset_fits naming here leads (offset_below_zero words) word words
 
 misfit_fits : (why : Option SourceFault) (word : Result Number SourceFault) → IfOk word Fits → IfOk (unless_fault why word) Fits
 misfit_fits (Some why) word h = tt

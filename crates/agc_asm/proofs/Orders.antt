@@ -20,7 +20,7 @@ use Rattle.agc_listing.specs.declared.order.Operand.TheVariants as operand
 use Rattle.agc_listing.proofs.LineBack.{narrow_back, pattern_fits}
 use Rattle.agc_listing.proofs.Octals.{octal_back}
 use Rattle.agc_listing.proofs.Prints.{both, digits_are_solid, digits_print, is_solid, place_passes, prints}
-use Rattle.agc_asm.specs.Encode.{less_than_zero, encode_word, writes_order}
+use Rattle.agc_asm.specs.Encode.{offset_below_zero, encode_word, writes_order}
 use Rattle.agc_asm.specs.Operand.{as_channel, as_memory, located, operand_for, value_of}
 use Rattle.agc_asm.specs.LineKind.{kind_of}
 use Rattle.agc_asm.specs.Disassemble.{shows_order, order_or_digits}
@@ -160,7 +160,7 @@ order_spelled name words m = rw (m.plain, m.no_alias) refl
 order_alias : (name : List ℕ) (words : List (List ℕ)) → IsMnemonic name → alias_in (name ∷ words) ≡ None
 order_alias name words m = rw (m.plain, m.no_alias) refl
 
-not_less : (o : Operand) → less_than_zero (operand_words o) ≡ None
+not_less : (o : Operand) → offset_below_zero (operand_words o) ≡ None
 not_less operand.Nothing = refl
 not_less (operand.Address k) = refl
 not_less (operand.Channel c) = refl

@@ -16,7 +16,7 @@ use Rattle.agc_asm.specs.Row.{as_word, basic_word, extracode_word, meant, meant_
 use Rattle.agc_asm.specs.declared.fault.SourceFault.{SourceFault}
 use Rattle.agc_asm.specs.declared.mnemonic.Directive.{Directive}
 use Rattle.agc_asm.specs.Body.{alias_in, has_minus, spelled}
-use Rattle.agc_asm.specs.Encode.{basic_with, complemented_word, extracode_with, if_basic, if_extracode, is_order_by, is_order_spelled, less_than_zero, operand_fault, order_by_offset, order_meaning, plain_meaning, unless_fault, word_by, encode_word, writes_order}
+use Rattle.agc_asm.specs.Encode.{basic_with, complemented_word, extracode_with, if_basic, if_extracode, is_order_by, is_order_spelled, offset_below_zero, operand_fault, order_by_offset, encode_order, plain_meaning, unless_fault, word_by, encode_word, writes_order}
 use Rattle.agc_asm.specs.declared.alias.Alias.{Alias}
 use Rattle.agc_asm.specs.declared.encode.Banks.{Banks}
 use Rattle.agc_asm.specs.Operand.{operand_for, value_of}
@@ -89,7 +89,7 @@ extracode_case words naming since place name rest word (Some order) named h is =
     extracode_given words since place name order (operand_for (extracode_row order).takes naming place rest) word named h is
 
 order_shown : (words : List Number) (naming : Naming) (since place : ℕ) (leads : Bool) (name : List ℕ) (rest : List (List ℕ)) (word : Number) → At words since leads place word
-    → order_meaning naming place leads name rest ≡ Ok word → AreShown words (order_with since place leads name (operand_read (row_named leads name) naming place rest)) (name ∷ [])
+    → encode_order naming place leads name rest ≡ Ok word → AreShown words (order_with since place leads name (operand_read (row_named leads name) naming place rest)) (name ∷ [])
 order_shown words naming since place true name rest word h is = extracode_case words naming since place name rest word (extracode_named name) refl h is
 order_shown words naming since place false name rest word h is = basic_case words naming since place name rest word (basic_named name) refl h is
 
@@ -103,7 +103,7 @@ by_shown : (words : List Number) (naming : Naming) (since place : ℕ) (leads : 
     → is_order_by d rest ≡ true → word_by naming place leads banks d name rest ≡ Ok word → AreShown words (order_at naming since leads place (name ∷ rest)) (mnemonic_in (name ∷ rest))
 by_shown words naming since place leads banks (Some d) name rest word h order is = absurd cc
 by_shown words naming since place leads banks None name rest word h order is =
-    less_shown words naming since place leads (less_than_zero rest) name rest word h order is
+    less_shown words naming since place leads (offset_below_zero rest) name rest word h order is
 
 unless_is : (why : Option SourceFault) (meaning : Result Number SourceFault) (word : Number) → unless_fault why meaning ≡ Ok word → meaning ≡ Ok word
 unless_is (Some why) meaning word is = absurd cc

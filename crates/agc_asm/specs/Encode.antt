@@ -61,10 +61,10 @@ if_extracode naming here None word words =
     Err (if is_some (basic_named word) then fault.BasicAfterExtend else fault.UnknownOrder)
 
 -- the word of an order: of an extracode if one is expected, otherwise of a basic order
-abbrev pub order_meaning : Naming → ℕ → Bool → List ℕ → List (List ℕ) → Result Number SourceFault
-order_meaning naming here true word words =
+abbrev pub encode_order : Naming → ℕ → Bool → List ℕ → List (List ℕ) → Result Number SourceFault
+encode_order naming here true word words =
     if_extracode naming here (extracode_named word) word words
-order_meaning naming here false word words = if_basic naming here (basic_named word) word words
+encode_order naming here false word words = if_basic naming here (basic_named word) word words
 
 abbrev pub or_bad_number : Option Number → Result Number SourceFault
 or_bad_number (Some word) = Ok word
@@ -216,9 +216,9 @@ less_by (Some n) (Some by) =
     if by.minus && nat_lt n by.magnitude then Some (by.magnitude - n) else None
 less_by n by = None
 
-abbrev pub less_than_zero : List (List ℕ) → Option ℕ
-less_than_zero (word ∷ by ∷ []) = less_by (octal_number 6 word) (offset_parsed by)
-less_than_zero words = None
+abbrev pub offset_below_zero : List (List ℕ) → Option ℕ
+offset_below_zero (word ∷ by ∷ []) = less_by (octal_number 6 word) (offset_parsed by)
+offset_below_zero words = None
 
 abbrev pub lowered : ℕ → Result Number SourceFault → Result Number SourceFault
 lowered less (Ok word) =
@@ -226,14 +226,14 @@ lowered less (Ok word) =
 lowered less (Err why) = Err why
 
 abbrev pub order_by_offset : Naming → ℕ → Bool → Option ℕ → List ℕ → List (List ℕ) → Result Number SourceFault
-order_by_offset naming here leads None word words = order_meaning naming here leads word words
+order_by_offset naming here leads None word words = encode_order naming here leads word words
 order_by_offset naming here leads (Some less) word words =
-    lowered less (order_meaning naming here leads word (codes "0" ∷ []))
+    lowered less (encode_order naming here leads word (codes "0" ∷ []))
 
 abbrev pub word_by : Naming → ℕ → Bool → Banks → Option Directive → List ℕ → List (List ℕ) → Result Number SourceFault
 word_by naming here leads banks (Some d) word words = directive_meaning naming here banks d words
 word_by naming here leads banks None word words =
-    order_by_offset naming here leads (less_than_zero words) word words
+    order_by_offset naming here leads (offset_below_zero words) word words
 
 -- CAF takes no name in erasable memory, and CAE none in fixed memory.
 abbrev pub operand_fault : Option Alias → Result Value SourceFault → Option SourceFault
@@ -265,7 +265,7 @@ encode_word naming here leads banks words =
 -- takes its operand below zero. Only an order can be EXTEND or INDEX, so that an extracode follows it.
 abbrev pub is_order_by : Option Directive → List (List ℕ) → Bool
 is_order_by (Some d) words = false
-is_order_by None words = is_none (less_than_zero words)
+is_order_by None words = is_none (offset_below_zero words)
 
 abbrev pub is_order_spelled : List (List ℕ) → Bool
 is_order_spelled [] = false

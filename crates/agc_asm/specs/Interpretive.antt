@@ -15,7 +15,7 @@ use Rattle.agc_interpretive.specs.declared.operand.Index.{Index}
 use Rattle.agc_interpretive.specs.declared.operand.Place.TheVariants as place
 use Rattle.agc_interpretive.specs.declared.operation.Operation.{Operation}
 use Rattle.agc_interpretive.specs.declared.pending.Pending.{Pending}
-use Rattle.agc_listing.specs.Location.{location_numbered}
+use Rattle.agc_listing.specs.Location.{location_of_pseudo_address}
 use Rattle.agc_listing.specs.Number.{offset_parsed}
 use Rattle.agc_listing.specs.Text.{after_first, are_listed, body_of, label_of, parsed_by}
 use Rattle.agc_listing.specs.declared.location.Location.{Location}
@@ -115,7 +115,7 @@ at_location (Err w) = Err w
 -- Numbers from 10000 on are places, as listings count all memory, but not where a constant is due.
 abbrev pub meaning : Bool → Result Value SourceFault → Result Meant SourceFault
 meaning constant (Ok (value.Number n)) =
-    if constant || nat_lt n 0o10000 then sized false n else at_location (located (location_numbered n))
+    if constant || nat_lt n 0o10000 then sized false n else at_location (located (location_of_pseudo_address n))
 meaning constant (Ok (value.At given)) = at_location (located (Some given))
 meaning constant (Err w) = Err w
 

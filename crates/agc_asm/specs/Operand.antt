@@ -9,7 +9,7 @@ use Rattle.agc_store.specs.Places.{erasable_cells, fixed_words}
 use Rattle.agc_listing.specs.List.{listed_address}
 use Rattle.agc_listing.specs.declared.order.Operand.{Operand}
 use Rattle.agc_listing.specs.declared.order.Operand.TheVariants as operand
-use Rattle.agc_listing.specs.Location.{cell_address, is_addressable, is_fixed_fixed, location_named, location_numbered}
+use Rattle.agc_listing.specs.Location.{cell_address, is_addressable, is_fixed_fixed, location_named, location_of_pseudo_address}
 use Rattle.agc_asm.specs.Name.{Naming, known}
 use Rattle.agc_listing.specs.Number.{count_named, offset_parsed}
 use Rattle.agc_listing.specs.Text.{is_name}
@@ -111,7 +111,7 @@ value_of naming here words = Err fault.BadOperand
 
 -- the location of a value; a number names one as listings count all memory
 abbrev pub location_of : Value → Option Location
-location_of (value.Number n) = location_numbered n
+location_of (value.Number n) = location_of_pseudo_address n
 location_of (value.At place) = Some place
 
 abbrev pub located : Option Location → Result Location SourceFault
@@ -146,7 +146,7 @@ number_of_location (location.Fixed place) = if is_fixed_fixed place then place e
 abbrev pub location_apart : Location → Location → Result Location SourceFault
 location_apart here from =
     if nat_le (number_of_location from) (number_of_location here)
-    then located (location_numbered (number_of_location here - number_of_location from))
+    then located (location_of_pseudo_address (number_of_location here - number_of_location from))
     else Err fault.NoSuchPlace
 
 -- the same for an address that a line at a place writes: an offset alone is relative to the line itself
@@ -164,7 +164,7 @@ address_by here (Some place) = address_of here place
 address_by here None = Err fault.NoSuchPlace
 
 abbrev pub address_at : ℕ → Value → Result ℕ SourceFault
-address_at here (value.Number n) = if nat_lt n 0o10000 then Ok n else address_by here (location_numbered n)
+address_at here (value.Number n) = if nat_lt n 0o10000 then Ok n else address_by here (location_of_pseudo_address n)
 address_at here (value.At place) = address_of here place
 
 -- The cells whose names may also be names of channels: the registers and counters below 61, and 77. Each other cell is

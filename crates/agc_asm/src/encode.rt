@@ -15,12 +15,12 @@ ghost use Rattle.agc_asm.specs.Encode.{
   downlink_word,
   extracode_meaning,
   is_banked,
-  less_than_zero,
+  offset_below_zero,
   operand_fault,
   octal_in,
   octal_pair_in,
   order_by_offset,
-  order_meaning,
+  encode_order,
   number_word,
   pair_by_word,
   encode_pair,
@@ -146,10 +146,10 @@ fn order_by_offset(
     rest: &[u8],
 ) -> Result<Narrow, SourceFault>
     ensures { result ≡ order_by_offset (naming_of names.now) site.here site.leads
-        (less_than_zero (tokens rest.now)) word.now (tokens rest.now) }
+        (offset_below_zero (tokens rest.now)) word.now (tokens rest.now) }
 {
-    match less_than_zero(rest) {
-        None => order_meaning(names, site, word, rest),
+    match offset_below_zero(rest) {
+        None => encode_order(names, site, word, rest),
         Some(less) => {
             let order = order_of_zero(names, site, word)?;
             Ok(lowered(less, order))
@@ -159,14 +159,14 @@ fn order_by_offset(
 
 /// Encodes an order with the operand 0.
 fn order_of_zero(names: &Names, site: Site, word: &[u8]) -> Result<Narrow, SourceFault>
-    ensures { result ≡ order_meaning (naming_of names.now) site.here site.leads word.now (codes "0" ∷ []) }
+    ensures { result ≡ encode_order (naming_of names.now) site.here site.leads word.now (codes "0" ∷ []) }
 {
-    order_meaning(names, site, word, b"0")
+    encode_order(names, site, word, b"0")
 }
 
 /// Returns how far below zero an offset takes a number.
-fn less_than_zero(rest: &[u8]) -> Option<u64>
-    ensures less { result ≡ less_than_zero (tokens rest.now) }
+fn offset_below_zero(rest: &[u8]) -> Option<u64>
+    ensures less { result ≡ offset_below_zero (tokens rest.now) }
     ensures range { IfSome result (λ less. less < 100000) }
 {
     let (word, more) = next_token(rest)?;
@@ -191,8 +191,8 @@ fn lowered(less: u64, word: Narrow) -> Narrow
     Narrow::with_bits((sum % 0o100000) as u16)
 }
 
-fn order_meaning(names: &Names, site: Site, word: &[u8], rest: &[u8]) -> Result<Narrow, SourceFault>
-    ensures { result ≡ order_meaning (naming_of names.now) site.here site.leads word.now (tokens rest.now) }
+fn encode_order(names: &Names, site: Site, word: &[u8], rest: &[u8]) -> Result<Narrow, SourceFault>
+    ensures { result ≡ encode_order (naming_of names.now) site.here site.leads word.now (tokens rest.now) }
 {
     if site.leads {
         match extracode_named(word) {
@@ -417,7 +417,7 @@ pub(crate) fn writes_order(operation: &Operation) -> bool
 {
     match operation.directive {
         Some(_) => false,
-        None => less_than_zero(operation.rest).is_none() && !operation.minus,
+        None => offset_below_zero(operation.rest).is_none() && !operation.minus,
     }
 }
 

@@ -7,7 +7,7 @@ ghost use Rattle.agc_asm.specs.Mnemonic.{directive_named};
 ghost use Rattle.agc_listing.specs.Number.{begins_with_minus};
 ghost use Rattle.agc_word.specs.Number.{Number, number_from_pattern};
 ghost use Rattle.agc_asm.specs.declared.encode.Pair.{Pair};
-ghost use Rattle.agc_asm.specs.Encode.{complemented, less_than_zero, lowered, order_meaning, encode_pair, encode_word};
+ghost use Rattle.agc_asm.specs.Encode.{complemented, offset_below_zero, lowered, encode_order, encode_pair, encode_word};
 ghost use Rattle.agc_asm.specs.Numeral.{IsNearest, nearest, raised};
 ghost use Rattle.agc_asm.specs.declared.alias.Alias.{Alias};
 ghost use Rattle.agc_asm.specs.declared.encode.Banks.{Banks};
@@ -89,9 +89,9 @@ pub fn a_minus_complements_the_words()
 pub fn an_offset_is_added_to_the_word()
     ensures { (naming : Naming) (here : ℕ) (leads : Bool) (banks : Banks) (name : List ℕ) (rest : List (List ℕ)) (less : ℕ)
         → begins_with_minus name ≡ false → alias_named name ≡ None → directive_named name ≡ None
-        → less_than_zero rest ≡ Some less
+        → offset_below_zero rest ≡ Some less
         → encode_word naming here leads banks (name ∷ rest)
-        ≡ lowered less (order_meaning naming here leads name (codes "0" ∷ [])) }
+        ≡ lowered less (encode_order naming here leads name (codes "0" ∷ [])) }
 {}
 
 /// A fraction's word or pair is the nearest one: no integer below the limit is nearer to the quotient of the number in

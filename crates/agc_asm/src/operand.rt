@@ -40,7 +40,7 @@ use crate::fault::SourceFault;
 use crate::names::Names;
 use agc_listing::{
     Location, Operand, Signed, cell_address, count_named, is_addressable, is_name, listed_address,
-    location_named, location_numbered, offset_parsed,
+    location_named, location_of_pseudo_address, offset_parsed,
 };
 use agc_order::Takes;
 use agc_store::place::{ERASABLE_CELLS, FIXED_FIXED, FIXED_WORDS};
@@ -275,7 +275,7 @@ pub(crate) fn location_apart(here: Location, from: Location) -> Result<Location,
 {
     let (here, from) = (number_of_location(here), number_of_location(from));
     if from <= here {
-        located(location_numbered(here - from))
+        located(location_of_pseudo_address(here - from))
     } else {
         Err(SourceFault::NoSuchPlace)
     }
@@ -321,7 +321,7 @@ pub(crate) fn location_of(value: Value) -> Option<Location>
     ensures { result ≡ location_of value }
 {
     match value {
-        Value::Number(number) => location_numbered(number),
+        Value::Number(number) => location_of_pseudo_address(number),
         Value::At(place) => Some(place),
     }
 }
@@ -347,7 +347,7 @@ pub(crate) fn address_at(here: u32, value: Value) -> Result<u16, SourceFault>
 {
     match value {
         Value::Number(number) if number < 0o10000 => Ok(number as u16),
-        Value::Number(number) => match location_numbered(number) {
+        Value::Number(number) => match location_of_pseudo_address(number) {
             Some(place) => address_of(here, place),
             None => Err(SourceFault::NoSuchPlace),
         },

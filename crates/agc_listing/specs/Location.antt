@@ -90,8 +90,8 @@ is_addressable here place =
 abbrev pub pseudo_fixed : ℕ → Option Location
 pseudo_fixed place = if nat_lt place fixed_words then Some (location.Fixed place) else None
 
-abbrev pub location_numbered : ℕ → Option Location
-location_numbered n =
+abbrev pub location_of_pseudo_address : ℕ → Option Location
+location_of_pseudo_address n =
     if nat_lt n fixed_fixed then Some (location.Erasable n)
     else if nat_lt n 0o10000 then Some (location.Fixed n) else pseudo_fixed (n - 0o10000)
 

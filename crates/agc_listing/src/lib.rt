@@ -29,7 +29,7 @@ pub use listed::{
 };
 pub use location::{
     Location, bank_word, cell_address, complete_address, is_addressable, location_at, location_in,
-    location_named, location_numbered,
+    location_named, location_of_pseudo_address,
 };
 pub use location_range::{LocationRange, RangeFault, one_place, only_cells, two_places};
 pub use number::{

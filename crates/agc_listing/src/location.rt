@@ -24,7 +24,7 @@ ghost use Rattle.agc_listing.specs.Location.{
   location_named,
   is_addressable,
   is_fixed_fixed,
-  location_numbered,
+  location_of_pseudo_address,
 };
 ghost use Rattle.agc_word.specs.Numeral.{octal_number};
 
@@ -219,8 +219,8 @@ fn is_fixed_fixed(place: u32) -> bool
 
 /// Returns the location of a number, as listings count all memory: from 0 to 3777 octal the cells, from 4000 to 7777
 /// banks 02 and 03, and from 10000 on the banks in their order.
-pub fn location_numbered(number: u32) -> Option<Location>
-    ensures location { result ≡ location_numbered number }
+pub fn location_of_pseudo_address(number: u32) -> Option<Location>
+    ensures location { result ≡ location_of_pseudo_address number }
     ensures range { IfSome result IsWithin }
 {
     if number < u32::from(FIXED_FIXED) {

@@ -15,7 +15,7 @@ use Rattle.agc_trace.proofs.Forward.{trace_goes_forward}
 use Rattle.agc_trace.proofs.Steps.{fewer_entries}
 use Rattle.agc_profile.specs.Profile.{count_of, counted, counted_in, counted_one, nothing_counted}
 use Rattle.agc_profile.specs.Context.{at_start, mode_after}
-use Rattle.agc_profile.specs.Step.{is_in, passage_between, passage_of, passages, passages_in, passages_left}
+use Rattle.agc_profile.specs.Step.{is_in, passage_between, passage_of, passages, steps_in, passages_left}
 use Rattle.agc_profile.specs.Readers.{Reported, all_reported, reported_of}
 use Rattle.agc_trace.specs.declared.span.Span.{Span}
 use Rattle.agc_profile.specs.declared.profile.Profile.{Profile}
@@ -155,6 +155,6 @@ counted_all span mode s c whole e h = ap (λ (ps : List Step). counted c ps) (sy
 
 -- a profile begins empty, in the context of a run's start
 pub starts : (span : Span) (s : State) (mode : Context) (c : Profile) → c ≡ nothing_counted → mode ≡ at_start →
-    counted c (passages_left span mode s) ≡ count_of (passages_in span s)
+    counted c (passages_left span mode s) ≡ count_of (steps_in span s)
 starts span s mode c e f =
     ap (λ (d : Profile). counted d (passages_left span mode s)) e ∙ ap (λ (m : Context). counted nothing_counted (passages_left span m s)) f

@@ -46,8 +46,8 @@ unfoldable pub passages_left : Span → Context → State → List Step
 passages_left span mode s = filter (is_in span) (passages mode (all_reported s))
 
 -- the boundaries of a run in a span
-abbrev pub passages_in : Span → State → List Step
-passages_in span s = passages_left span at_start s
+abbrev pub steps_in : Span → State → List Step
+steps_in span s = passages_left span at_start s
 
 -- the boundary that begins in a state
 unfoldable pub passage_of : Context → State → Step

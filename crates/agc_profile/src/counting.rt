@@ -8,7 +8,7 @@ ghost use Rattle.agc_profile.specs.DataReads.{data_of};
 ghost use Rattle.agc_profile.specs.Laws.{OrdersAddUp};
 ghost use Rattle.agc_profile.specs.Context.{mode_after};
 ghost use Rattle.agc_profile.specs.Opcode.{named_of};
-ghost use Rattle.agc_profile.specs.Step.{HasTally, IsPlaced, RunsAs, is_order, passage_of, passages_in};
+ghost use Rattle.agc_profile.specs.Step.{HasTally, IsPlaced, RunsAs, is_order, passage_of, steps_in};
 ghost use Rattle.agc_profile.specs.Sums.{AddsUp};
 
 use crate::context::{Context, mode_after_other};
@@ -32,7 +32,7 @@ pub fn count<P: Progress>(
     progress: &mut P,
 ) -> Result<Profile, AllocError>
     requires fresh { machine.old.begun ≡ false }
-    ensures counts { IfOk result (λ counts. counts ≡ count_of (passages_in span machine.old)) }
+    ensures counts { IfOk result (λ counts. counts ≡ count_of (steps_in span machine.old)) }
     ensures rope { OnOk result
         (machine.new.processor.store.fixed ≡ machine.old.processor.store.fixed) }
     ensures law { IfOk result OrdersAddUp }

@@ -29,13 +29,13 @@ one_or_two names why text (Some place) = one_place (Some place)
 one_or_two names why text None = two_parsed names why text (dash_between names text)
 
 -- `LOOP`, `LOOP+3` or `LOOP-3`; if the whole text is not a location, two of one bank: `LOOP-4177`, `LOOP-LOOP+7`
-unfoldable pub places_called : Option (List Symbol) → RangeFault → List ℕ → Result LocationRange RangeFault
-places_called names why text = one_or_two names why text (resolve names text)
+unfoldable pub range_by_names : Option (List Symbol) → RangeFault → List ℕ → Result LocationRange RangeFault
+range_by_names names why text = one_or_two names why text (resolve names text)
 
 -- what a text names without names, it names with them; if it names nothing either way, the fault is the same
 abbrev pub named_or_called : Option (List Symbol) → List ℕ → Result LocationRange RangeFault → Result LocationRange RangeFault
 named_or_called names text (Ok places) = Ok places
-named_or_called names text (Err why) = places_called names why text
+named_or_called names text (Err why) = range_by_names names why text
 
 -- the range that a text names
 unfoldable pub resolve_range : Option (List Symbol) → List ℕ → Result LocationRange RangeFault

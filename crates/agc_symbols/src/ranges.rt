@@ -1,6 +1,6 @@
 //! Resolves a text to a range of locations, by symbols too.
 ghost use Rattle.std.specs.Prelude.{◌≡◌, ◌<◌, IfSome, length};
-ghost use Rattle.agc_symbols.specs.Resolve.{resolve_cells, dash_between, is_between, places_called, resolve_range};
+ghost use Rattle.agc_symbols.specs.Resolve.{resolve_cells, dash_between, is_between, range_by_names, resolve_range};
 
 use crate::lookup::resolve;
 use crate::symbol_table::SymbolTable;
@@ -15,7 +15,7 @@ pub fn resolve_range(names: &Option<SymbolTable>, text: &[u8]) -> Result<Locatio
 {
     match LocationRange::named(text) {
         Ok(places) => Ok(places),
-        Err(why) => places_called(names, why, text),
+        Err(why) => range_by_names(names, why, text),
     }
 }
 
@@ -28,13 +28,13 @@ pub fn resolve_cells(names: &Option<SymbolTable>, text: &[u8]) -> Result<Locatio
 }
 
 /// Resolves a text to a range by names.
-#[tactic(auto, unfolding(crate::specs::Resolve::places_called))]
-fn places_called(
+#[tactic(auto, unfolding(crate::specs::Resolve::range_by_names))]
+fn range_by_names(
     names: &Option<SymbolTable>,
     why: RangeFault,
     text: &[u8],
 ) -> Result<LocationRange, RangeFault>
-    ensures { result ≡ places_called names.now why text.now }
+    ensures { result ≡ range_by_names names.now why text.now }
 {
     match (resolve(names, text), dash_between(names, text)) {
         (Some(place), _) => one_place(Some(place)),

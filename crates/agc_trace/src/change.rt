@@ -44,7 +44,7 @@ pub(crate) struct Seen {
 
 /// Reads the watched cells, each once and in the order of their numbers.
 #[tactic(auto, unfolding(crate::specs::Change::named_cells))]
-pub(crate) fn see_named(
+pub(crate) fn watch_cells(
     alloc: Global,
     several: &[LocationRange],
     store: &Store,

@@ -8,7 +8,7 @@ ghost use Rattle.agc_trace.specs.Service.{service_left};
 ghost use Rattle.agc_trace.specs.Trace.{trace_of};
 ghost use Rattle.agc_trace.specs.Watch.{FitsWatched};
 
-use crate::change::{Change, next_watched, see_named};
+use crate::change::{Change, next_watched, watch_cells};
 use crate::line_form::LineForm;
 use crate::passing::pass_unrequested;
 use crate::recorded::Recorded;
@@ -76,7 +76,7 @@ fn keep_last<P: Progress>(
     ensures service { IfOk result (λ left. left ≡ service_left selection.now (trace_of machine.old)) }
     ensures fault { IfErr result (λ why. why ≡ TraceFault.Memory) }
 {
-    let mut seen = see_named(alloc, selection.cells.as_slice(), machine.store())?;
+    let mut seen = watch_cells(alloc, selection.cells.as_slice(), machine.store())?;
     let mut changes = Vec::new(alloc);
     let mut mark = 0;
     let mut service = None;

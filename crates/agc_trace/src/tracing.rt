@@ -8,7 +8,7 @@ ghost use Rattle.agc_trace.specs.Selection.{last_of, lines_of, selected, selecte
 ghost use Rattle.agc_trace.specs.Service.{service_left};
 ghost use Rattle.agc_trace.specs.Trace.{trace_of};
 
-use crate::change::{Change, next_watched, see_named};
+use crate::change::{Change, next_watched, watch_cells};
 use crate::last::write_last;
 use crate::line_form::LineForm;
 use crate::operand_line::push_watched_line;
@@ -98,7 +98,7 @@ fn write_lines<W: Write, P: Progress>(
     ensures cut { OnErr result (IsBegun (W.contents out.old) (W.contents out.new)
         (lines_of form.now (selected selection.now (watch_for selection.now machine.old)))) }
 {
-    let mut seen = see_named(alloc, selection.cells.as_slice(), machine.store())?;
+    let mut seen = watch_cells(alloc, selection.cells.as_slice(), machine.store())?;
     let mut changes = Vec::new(alloc);
     let mut mark = 0;
     let mut service = None;

@@ -2,4 +2,4 @@ use Rattle.agc_asm.proofs.Tokens.{zero_token}
 use Rattle.agc_asm.proofs.encode.order_of_zero.Goals as goal
 
 pub returns : goal.returns
-returns c = rw zero_token at c.order_meaning.ensures
+returns c = rw zero_token at c.encode_order.ensures

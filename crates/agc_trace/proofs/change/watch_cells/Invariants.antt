@@ -1,7 +1,7 @@
 use Rattle.std.proofs.Common.{◌≡◌}
 use Rattle.std.specs.Prelude.{map}
 use Rattle.agc_trace.specs.Change.{named_below, seen_in}
-use Rattle.agc_trace.proofs.change.see_named.Given as goal
+use Rattle.agc_trace.proofs.change.watch_cells.Given as goal
 
 -- the cells so far
 abbrev pub invariant-loop-number : goal.invariant-loop-number

@@ -1,7 +1,7 @@
 use Rattle.std.proofs.Common.{ap, sym, ◌∙◌}
 use Rattle.agc_trace.specs.Change.{seen_in}
 use Rattle.agc_trace.proofs.Changes.{seen_next, seen_none}
-use Rattle.agc_trace.proofs.change.see_named.Goals as goal
+use Rattle.agc_trace.proofs.change.watch_cells.Goals as goal
 
 pub loop-number-init : goal.loop-number-init
 loop-number-init c = c.new-seen.ensures.items ∙ sym (seen_none c.args.store.now c.args.several.now)
