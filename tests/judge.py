@@ -17,7 +17,12 @@ TOP = str(Path(__file__).resolve().parent.parent)
 NAME = Path(sys.argv[0]).resolve().parent.stem  # `film` for tests/film.d/tries.py
 OWNER = os.getpid()
 AGC, STUDY, CONSOLE, DSKY = (os.environ.get(name, "") for name in ("AGC", "STUDY", "CONSOLE", "DSKY"))
+MOST_AGAIN = 3  # tries of a judge that are made again
 passed = failed = 0
+folders: list[str] = []
+missed: list[str] = []  # the checks that failed
+again = 0  # tries that may still be made again
+close_left = None
 
 
 def check(what, holds):
@@ -27,6 +32,7 @@ def check(what, holds):
         passed += 1
     else:
         failed += 1
+        missed.append(what)
         # A judge may have redirected sys.stderr.
         print(f"{NAME}: {what}", file=sys.__stderr__, flush=True)
     return holds
@@ -44,17 +50,59 @@ def near(what, wanted, found, tolerance):
     return check(f"{what}: {found} is not within {tolerance} of {wanted}", abs(found - wanted) <= tolerance)
 
 
+def depends_on_time(close=None):
+    """Says that this judge depends on a browser, a terminal, sockets or the clock. A try that fails is then made once more: see
+    `attempt`. `close` closes what a try that failed has left open."""
+    global again, close_left
+    again, close_left = MOST_AGAIN, close
+
+
 def attempt(group, *words):
-    """Runs a function with checks. An exception that it does not catch is a failed check."""
+    """Makes a try: runs a function with checks. An exception that it does not catch is a failed check. In a judge that
+    `depends_on_time`, a try that failed is made once more from the start. Its checks of the second time count, and a line says
+    which failed the first time. Three tries at most are made again, so that a broken machine is not hidden."""
+    global passed, failed, again
+    before, standing = (passed, failed), {folder: set(os.listdir(folder)) for folder in folders}
+    make(group, words)
+    if failed == before[1] or not again:
+        return
+    since = "; ".join(missed[before[1]:])
+    passed, failed = before
+    del missed[failed:]
+    again -= 1
+    clear(group, standing)
+    make(group, words)
+    print(f"{NAME}: made again: {group.__name__}, since: {' '.join(since.split()):.1000}", flush=True)
+
+
+def make(group, words):
+    """Runs a function with checks."""
     try:
         group(*words)
     except Exception:
         check(f"{group.__name__}: {traceback.format_exc()}", False)
 
 
+def clear(group, standing):
+    """Closes and removes what the try has left: the folders have the files again that stood there before."""
+    try:
+        if close_left:
+            close_left()
+    except Exception:
+        check(f"what {group.__name__} left cannot be closed: {traceback.format_exc()}", False)
+    for folder, names in standing.items():
+        for name in set(os.listdir(folder)) - names:
+            path = os.path.join(folder, name)
+            if os.path.isdir(path) and not os.path.islink(path):
+                remove(path)
+            else:
+                os.unlink(path)
+
+
 def scratch_folder():
     """Makes a folder for files, which is removed when the judge ends."""
     folder = tempfile.mkdtemp(prefix=f"{NAME}.")
+    folders.append(folder)
     atexit.register(remove, folder)
     return folder
 

@@ -10,7 +10,7 @@ set -u
 judge=${0##*/}
 here=$(cd "$(dirname "$(readlink -f "$0")")" && pwd) || exit
 top=${here%/*}
-passed=0 failed=0
+passed=0 failed=0 again=3 missed=()
 # unshare's chroot is there, where not each user looks.
 PATH=$PATH:/usr/sbin:/sbin
 
@@ -74,6 +74,7 @@ holds() {
         passed=$((passed + 1))
     else
         echo "$judge: $1: no" >&2
+        missed+=("$1")
         failed=$((failed + 1))
     fi
 }
@@ -84,8 +85,22 @@ is() {
         passed=$((passed + 1))
     else
         printf '%s: %s: wanted\n%s\nfound\n%s\n' "$judge" "$1" "$2" "$(head -n 9 <<<"$3")" >&2
+        missed+=("$1")
         failed=$((failed + 1))
     fi
+}
+
+# attempt FUNCTION [WORD ..]: makes a try that depends on the clock or on a terminal. As in judge.py, one of which a check failed is
+# made once more, its checks of the second time count, and a line says which failed the first time; three tries at most.
+attempt() {
+    local before=$passed was=$failed since
+    missed=()
+    "$@"
+    [ "$failed" -gt "$was" ] && [ "$again" -gt 0 ] || return 0
+    passed=$before failed=$was again=$((again - 1))
+    since=$(printf '%s; ' "${missed[@]}")
+    "$@"
+    echo "$judge: made again: $1, since: ${since%; }"
 }
 
 # finish: prints the last line, and ends the judge

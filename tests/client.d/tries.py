@@ -14,7 +14,7 @@ import time
 
 import agc as client
 from agc import Breakpoint, Came, Console, Ended, Hit, Location, NotSaved, Number, Refused, Registers, Where, Write
-from judge import AGC, CONSOLE, TOP, finish, judge
+from judge import AGC, CONSOLE, TOP, attempt, depends_on_time, finish, judge
 
 program, console, top = AGC, CONSOLE, TOP
 
@@ -612,13 +612,11 @@ def try_versions():
             judge(f"a console of version {version}", True, wanted in done.stderr.decode().splitlines()[-1])
 
 
+depends_on_time()
 for each in (
     try_versions, try_keys, try_events, try_deferred, try_until, try_writes, try_names, try_breakpoints,
     try_panel_breakpoints, try_backwards, try_ahead, try_banks, try_numbers, try_quiet, try_odd_words, try_children, try_left_scripts, try_save, try_full_disk,
     try_deaths, try_rope_changes, try_faults,
 ):
-    try:
-        each()
-    except Exception as error:
-        judge(each.__doc__, "no exception", repr(error))
+    attempt(each)
 finish()

@@ -11,7 +11,7 @@ import subprocess
 import sys
 import time
 
-from judge import AGC, CONSOLE, STUDY, TOP, finish, judge, scratch_folder
+from judge import AGC, CONSOLE, STUDY, TOP, attempt, depends_on_time, finish, judge, scratch_folder
 from places import try_places
 from reading import LAMPS, faults_of, wrong_line
 from searches import search
@@ -478,12 +478,13 @@ for each in seeds:
     except (EOFError, IndexError, subprocess.CalledProcessError) as error:
         judge(f"seed {each}", "answers", repr(error))
 if len(sys.argv) == 1:
+    depends_on_time()
     try_odd_uses()
-    try_terminal()
+    attempt(try_terminal)
     try_save()
     try_full_script()
     try_full_breakpoints()
     try_hidden_minus()
     try_places(console, study, top)
-    try_an_hour_back()
+    attempt(try_an_hour_back)
 finish()

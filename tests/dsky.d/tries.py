@@ -18,7 +18,7 @@ import sys
 import termios
 import time
 
-from judge import AGC, DSKY, STUDY, TOP, finish, judge, scratch_folder
+from judge import AGC, DSKY, STUDY, TOP, attempt, depends_on_time, finish, judge, scratch_folder
 from painter import KEYS, LONG_HINT, SHORT_HINT, below, painted
 from screen import LAMPS, Screen
 
@@ -1461,13 +1461,6 @@ def try_idleness():
         terminal.close()
 
 
-def attempt(name, what, *words):
-    try:
-        what(*words)
-    except (Late, OSError, KeyError, TypeError, IndexError, ValueError, StopIteration, subprocess.SubprocessError) as error:
-        judge(name, "an answer", f"{type(error).__name__} {error}")
-
-
 GROUPS = (
     try_unsaved, try_saving, try_marks, try_waiting_keys, try_fastest, try_remarks, try_full_disk, try_two_sessions,
     try_little_memory, try_last_keys, try_told_names, try_leaving, try_ink, try_no_terminal, try_resizing, try_script,
@@ -1479,14 +1472,15 @@ GROUPS = (
 
 def main(names):
     """Tries the groups of these names, `try_faces` among them, or all."""
+    depends_on_time()  # each try closes its terminals
     for size in (LARGE, SMALL):
         if not names:
-            attempt(f"keys at {size}", try_keys, size)
+            attempt(try_keys, size)
         for face, made, keys in faces() if not names or "try_faces" in names else ():
-            attempt(f"{face} at {size}", try_face, f"{face} at {size[0]} lines", made, keys, size)
+            attempt(try_face, f"{face} at {size[0]} lines", made, keys, size)
     for group in GROUPS:
         if not names or group.__name__ in names:
-            attempt(group.__name__, group)
+            attempt(group)
     finish()
 
 

@@ -18,6 +18,8 @@ KEYS = {'Space': (' ', 32), 'ArrowLeft': ('ArrowLeft', 37), 'ArrowRight': ('Arro
 class Browser:
     """One page of a browser, of this size."""
 
+    started: list = []
+
     def __init__(self, program, home, width, height):
         to_browser, our_end = os.pipe()
         self.answers, its_end = os.pipe()
@@ -26,6 +28,7 @@ class Browser:
             ['bash', '-c', f'exec "$@" 3<&{to_browser} 4>&{its_end}', 'bash', *words],
             pass_fds=(to_browser, its_end), env={**os.environ, 'HOME': home},
             stdin=subprocess.DEVNULL, stdout=subprocess.DEVNULL, stderr=subprocess.DEVNULL)
+        Browser.started.append(self.process)
         os.close(to_browser)
         os.close(its_end)
         self.asks, self.read, self.last, self.session, self.events, self.thrown = our_end, b'', 0, None, [], []
@@ -119,3 +122,11 @@ class Browser:
         except (OSError, RuntimeError, TimeoutError):
             self.process.terminate()
         self.process.wait()
+
+    @classmethod
+    def kill_all(cls):
+        """Kills the browsers that a test that failed has left."""
+        for process in cls.started:
+            process.kill()
+            process.wait()
+        cls.started.clear()

@@ -5,14 +5,16 @@
 The folder has the films that tests/film has made. What is wanted is worked out by hand from docs/study/film.md and from the
 DSKY's own drawings.
 """
+import functools
 import os
 import re
 import runpy
 import sys
+import tempfile
 import time
 
 from browser import Browser
-from judge import attempt, finish, judge, near
+from judge import attempt, depends_on_time, finish, judge, near
 
 HERE = os.path.dirname(os.path.abspath(__file__))
 SIDES = ('left', 'right')
@@ -675,13 +677,28 @@ TRIES = (
 
 
 def main(folder, program):
-    browser = Browser(program, folder, WIDTH, HEIGHT)
-    tries = Tries(folder, browser)
+    tries = Tries(folder, Browser(program, folder, WIDTH, HEIGHT))
+
+    def open_anew():
+        """Ends the browser that a try has left, and opens another one."""
+        tries.browser.kill_all()
+        tries.browser = Browser(program, tempfile.mkdtemp(dir=folder), WIDTH, HEIGHT)
+
+    depends_on_time(open_anew)
     for each in TRIES:
-        attempt(each, tries)
-        tries.check(f'errors of the pages in {each.__name__}', [], browser.errors())
-    browser.close()
+        attempt(with_errors(each), tries)
+    tries.browser.close()
     finish()
+
+
+def with_errors(each):
+    """Returns the try with a last check: that the pages' scripts had no error."""
+    @functools.wraps(each)
+    def checked(tries):
+        each(tries)
+        tries.check(f'errors of the pages in {each.__name__}', [], tries.browser.errors())
+
+    return checked
 
 
 if __name__ == '__main__':

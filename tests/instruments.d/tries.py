@@ -20,7 +20,7 @@ from agc import Console
 from agc_web import instruments, protocol
 from agc_web.session import Session
 from dsky import KEYS, LONGEST, PRO_DOWN, PRO_MASK, PRO_UP, RELEASE, Dsky
-from judge import AGC, CONSOLE, TOP, attempt, finish, judge, scratch_folder
+from judge import AGC, CONSOLE, TOP, attempt, depends_on_time, finish, judge, scratch_folder
 
 agc, console, top, scratch = AGC, CONSOLE, TOP, scratch_folder()
 
@@ -113,6 +113,7 @@ class Program:
     """agc_web.instruments as a process, with a rope, on ten ports; it saves its script."""
 
     saved = 0
+    started: list = []
 
     def __init__(self, rope, *words, script=None, save=True, folder=None):
         Program.saved += 1
@@ -125,8 +126,17 @@ class Program:
         line += ["--save", self.file] if save else []
         with open(self.told, "w") as told:
             self.process = subprocess.Popen(line, stdout=subprocess.PIPE, stderr=told, text=True, cwd=folder)
-        atexit.register(self.process.kill)  # one that a failed case has left
+        Program.started.append(self.process)
         self.wait_for("instruments: ports")
+
+    @classmethod
+    def kill_all(cls):
+        """Kills those that a try that failed has left."""
+        for process in cls.started:
+            if process.poll() is None:
+                process.kill()
+                process.communicate()
+        cls.started.clear()
 
     def lines(self):
         """What was said on standard error."""
@@ -999,6 +1009,8 @@ def try_page():
     judge("the client sees the end", False, dsky.lasts(10))
 
 
+depends_on_time(Program.kill_all)
+atexit.register(Program.kill_all)
 for each in (
     try_bytes, try_steps, try_commands, try_lamps, try_limits, try_addresses, try_keys, try_second_keyboard, try_pro,
     try_counters, try_four, try_request, try_rubbish, try_keeping_waiting, try_due, try_gaps, try_saving, try_far, try_speed,

@@ -20,12 +20,15 @@ CODES = {'Enter': '\ue007', 'Space': ' '}
 class Firefox:
     """One page of Firefox."""
 
+    opened: list = []
+
     def __init__(self, program, home):
         with open(os.path.join(home, 'user.js'), 'w') as file:
             file.writelines(f'user_pref({json.dumps(name)}, {json.dumps(value)});\n' for name, value in SETTINGS.items())
         words = [program, '--headless', '--no-remote', '--profile', home, '--remote-debugging-port', '0', 'about:blank']
         self.process = subprocess.Popen(words, stdin=subprocess.DEVNULL, stdout=subprocess.DEVNULL, stderr=subprocess.PIPE,
                                         text=True, env={**os.environ, 'HOME': home})
+        Firefox.opened.append(self.process)
         self.socket = self.bytes = None
         self.last = 0
         port = next(int(found[1]) for found in map(found_port, self.process.stderr) if found)
@@ -114,6 +117,14 @@ class Firefox:
             self.process.kill()
             self.process.wait()
         self.process.stderr.close()
+
+    @classmethod
+    def close_all(cls):
+        """Ends those that a test that failed has left."""
+        for process in cls.opened:
+            process.kill()
+            process.wait()
+        cls.opened.clear()
 
 
 def found_port(line):

@@ -12,7 +12,7 @@ import flights
 import opening
 import randoms
 from firefox import Firefox
-from judge import TOP, attempt, finish, judge
+from judge import TOP, attempt, depends_on_time, finish, judge
 from local import FILE, LocalPage, LocalSite, web
 from site_of import example, keys_in, wait
 
@@ -111,7 +111,16 @@ TRIES = (
 )
 
 
+def close_left():
+    """Ends the browsers that a try has left."""
+    web.Page.close_all()
+    LocalPage.close_all()
+    web.Window.kill_all()
+    Firefox.close_all()
+
+
 def main():
+    depends_on_time(close_left)
     chosen = os.environ.get('TRY')
     has_firefox = shutil.which('firefox-esr') is not None
     if not has_firefox:
@@ -123,8 +132,7 @@ def main():
         began = time.monotonic()
         attempt(each)
         web.figure(f'seconds of {each.__name__}', round(time.monotonic() - began, 1))
-        web.Page.close_all()
-        LocalPage.close_all()
+        close_left()
     finish()
 
 

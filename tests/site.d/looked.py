@@ -3,6 +3,7 @@ import json
 import os
 import shutil
 
+import browser
 from firefox import Firefox
 from judge import check, judge, scratch_folder
 from looks import READ
@@ -34,6 +35,12 @@ BY_HAND = {
 """What a user does at steps that no click of the strip does."""
 CONTRASTED = ('index.html', 'downloads.html', 'documents.html', 'search.html', 'README.html', 'docs/WEB.html', 'examples/count-1/guide.html')
 """Pages with all kinds of texts."""
+
+
+def close_all():
+    """Ends the browsers that are still there."""
+    browser.Browser.kill_all()
+    Firefox.close_all()
 
 
 def url_of(place):

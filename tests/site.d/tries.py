@@ -9,7 +9,7 @@ import subprocess
 import sys
 
 import looked
-from judge import TOP, attempt, check, finish, judge, scratch_folder
+from judge import TOP, attempt, check, depends_on_time, finish, judge, scratch_folder
 from pages import FOLDER, Page, documents, files_of, is_followed, pages_of_site, place_of, target_of, text_of
 
 HOSTS = {'127.0.0.1', 'www.w3.org', '10.0.0.1'}
@@ -187,10 +187,12 @@ TRIES = (try_made, try_documents, try_links, try_hosts, try_downloads, try_serve
 
 
 def main():
+    depends_on_time(looked.close_all)
     chosen = os.environ.get('TRY')
     for each in TRIES:
         if not chosen or each.__name__ in ('try_made', *chosen.split(',')):
             attempt(each)
+            looked.close_all()
     finish()
 
 

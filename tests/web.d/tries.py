@@ -24,7 +24,7 @@ from agc import Console, Refused
 from agc_web.server import Server
 from agc_web.session import KEYS, Session, Unable
 from dsky import KEYS as KEY_PACKETS, Dsky
-from judge import AGC, CONSOLE, TOP, attempt, finish, judge, near, scratch_folder
+from judge import AGC, CONSOLE, TOP, attempt, depends_on_time, finish, judge, near, scratch_folder
 from site_of import LONGEST, Site, example, free_ports, keys_in, started, wait
 from window import Window
 import buttons
@@ -1490,7 +1490,15 @@ TRIES = (
 )
 
 
+def close_left():
+    """Ends the browsers and the servers that a try has left."""
+    Page.close_all()
+    Window.kill_all()
+    Site.kill_all()
+
+
 def main():
+    depends_on_time(close_left)
     chosen = os.environ.get('TRY')
     for each in TRIES:
         if chosen and each.__name__ not in chosen.split(','):
@@ -1498,8 +1506,7 @@ def main():
         began = time.monotonic()
         attempt(each)
         figure(f'seconds of {each.__name__}', round(time.monotonic() - began, 1))
-        Page.close_all()
-        Site.kill_all()
+        close_left()
     finish()
 
 
