@@ -99,6 +99,24 @@ def clear(group, standing):
                 os.unlink(path)
 
 
+def slowness():
+    """Returns how many times as long something may take now as on a machine whose processors are free: 1 there. It is measured by a
+    busy loop, and by how many wait for a processor."""
+    began, used = time.monotonic(), time.thread_time()
+    while time.thread_time() < used + 0.1:
+        pass
+    lost = (time.monotonic() - began) / 0.1
+    waiting = os.getloadavg()[0] / len(os.sched_getaffinity(0))
+    return max(1.0, 2 * max(lost, waiting) - 1)
+
+
+def soon(what, began, seconds):
+    """Checks that something which began at this time is done within so many seconds; longer if other programs have the
+    processors."""
+    took = time.monotonic() - began
+    return check(f"{what}: it took {took:.2f} s, more than {seconds}", took < seconds or took < seconds * slowness())
+
+
 def scratch_folder():
     """Makes a folder for files, which is removed when the judge ends."""
     folder = tempfile.mkdtemp(prefix=f"{NAME}.")

@@ -16,7 +16,7 @@ import tty
 
 program, shim, rope = sys.argv[1:4]
 
-LONGEST = 20
+LONGEST = 120
 # Sessions are drawn as long as they last, so that there is always one growth more: so many are tried.
 MOST = {"GROWTH": 60, "READ": 12, "WRITE": 12}
 REFUSALS = {

@@ -18,13 +18,13 @@ import sys
 import termios
 import time
 
-from judge import AGC, DSKY, STUDY, TOP, attempt, depends_on_time, finish, judge, scratch_folder
+from judge import AGC, DSKY, STUDY, TOP, attempt, depends_on_time, finish, judge, scratch_folder, slowness, soon
 from painter import KEYS, LONG_HINT, SHORT_HINT, below, painted
 from screen import LAMPS, Screen
 
 dsky, agc, study, top, scratch = DSKY, AGC, STUDY, TOP, scratch_folder()
 
-LONGEST = 30
+LONGEST = 300
 KEYS_ROPE = os.path.join(top, "examples", "keys", "rope")
 FIELDS = ("PROG", "VERB", "NOUN", "R1", "R2", "R3")
 SPACING = 8533
@@ -138,7 +138,12 @@ class Terminal:
         """Types what ends the session, and returns the status and what stands on the terminal then."""
         self.type(by)
         status = self.status()
-        return status, self.screen.plain.replace("\r\n", "\n")
+        return status, self.printed()
+
+    def printed(self):
+        """What stands on the terminal beside the picture. It also shows answers of its own for which the program has not waited:
+        they are left out."""
+        return re.sub(r"\^\[\[\d+;\d+R", "", self.screen.plain).replace("\r\n", "\n")
 
     def is_put_back(self):
         """Whether modes, cursor and screen are those of before."""
@@ -655,7 +660,7 @@ def try_little_memory():
             if terminal.process.poll() is None:
                 terminal.until("keys wait for ever", lambda screen: is_idle(screen) or terminal.process.poll() is not None)
                 terminal.type("q")
-            status, text = terminal.status(), terminal.screen.plain.replace("\r\n", "\n")
+            status, text = terminal.status(), terminal.printed()
             printed, limit, _ = told(text)
             script = read(save) if words else printed
             keys, rest = keys_of(script), iter(typed)
@@ -980,7 +985,7 @@ def try_a_long_way_back():
                 terminal.type(b"\x7f")
                 place = cycle - times * SPACING
                 terminal.until("not back", lambda screen: rerun_of(screen) is None and place <= screen.cycle() < place + 12)
-                judge(f"going back to {name}: quick", True, time.monotonic() < begun + 1.5)
+                soon(f"going back to {name}: quick", begun, 1.5)
             came = terminal.screen.cycle()
             status, text = terminal.quit(by)
             judge(f"going back to {name}: the end", (0, came), (status, told(text)[1]))
@@ -1195,11 +1200,11 @@ def try_slow_speeds():
                 terminal.take(0.02)
             seconds = time.monotonic() - begun
             cycles = terminal.screen.cycle() - first
-            judge(f"{speed}: {cycles} cycles in {seconds:.2f} seconds", True, abs(cycles - a_second * seconds) < a_second * 0.15)
+            judge(f"{speed}: {cycles} cycles in {seconds:.2f} seconds", True, abs(cycles - a_second * seconds) < a_second * 0.15 * slowness())
             judge(f"{speed}: keeps up", None, terminal.screen.number("RUNS AT"))
             status, text = terminal.quit()
             key = cycles_of(told(text)[0])[0]
-            judge(f"{speed}: the key", (0, True), (status, key < first + 0.2 * a_second))
+            judge(f"{speed}: the key", (0, True), (status, key < first + 0.2 * a_second * slowness()))
         finally:
             terminal.close()
 
@@ -1330,7 +1335,7 @@ def try_long_search():
         terminal.until("no search", lambda screen: last_line(screen).startswith(" searching for a change of the panel;"))
         terminal.type(" ")
         terminal.until("the search goes on", lambda screen: last_line(screen) == " search ended")
-        judge("a search is ended at once", True, time.monotonic() < begun + 1)
+        soon("a search is ended at once", begun, 1)
         terminal.type("u4")
         terminal.until("no search by u", lambda screen: last_line(screen) == " found: just after an interrupt")
         terminal.type("w")
@@ -1338,8 +1343,8 @@ def try_long_search():
         judge("a key while a search goes on", "_4", terminal.screen.fields()["NOUN"])
         terminal.type("w")
         begun = time.monotonic()
-        judge("control-C in a search", (0, ["4"]), (terminal.quit(b"\x03")[0], keys_of(told(terminal.screen.plain.replace("\r\n", "\n"))[0])))
-        judge("control-C is heard at once", True, time.monotonic() < begun + 1.5)
+        judge("control-C in a search", (0, ["4"]), (terminal.quit(b"\x03")[0], keys_of(told(terminal.printed())[0])))
+        soon("control-C is heard at once", begun, 1.5)
     finally:
         terminal.close()
 
@@ -1371,11 +1376,11 @@ def try_ending_a_search_back():
             begun = searches_back(terminal, "D")
             terminal.type("5 ")
             terminal.until("the search back goes on", lambda screen: last_line(screen) == " search ended")
-            judge(f"space in a search back, before {name}: heard at once", True, time.monotonic() < begun + 1.5)
+            soon(f"space in a search back, before {name}: heard at once", begun, 1.5)
             judge(f"space in a search back, before {name}: no change", (cycle, True), (terminal.screen.cycle(), is_paused(terminal.screen)))
             begun = searches_back(terminal, typed)
             status = terminal.quit(by)[0]
-            judge(f"{name} in a search back: heard at once", True, time.monotonic() < begun + 1.5)
+            soon(f"{name} in a search back: heard at once", begun, 1.5)
             judge(f"{name} in a search back: the end", (0, ["4", "5"]), (status, keys_of(read(save))))
             judge(f"{name} in a search back: the terminal", (True, []), (terminal.is_put_back(), terminal.screen.faults))
         finally:

@@ -8,7 +8,7 @@ import select
 import socket
 import time
 
-LONGEST = 30
+LONGEST = 240
 
 # channel 15 is 00001 101
 KEYS = {

@@ -15,12 +15,14 @@ import struct
 import subprocess
 import sys
 import time
+import types
+import urllib.request
 
 from agc import Console
 from agc_web import instruments, protocol
 from agc_web.session import Session
 from dsky import KEYS, LONGEST, PRO_DOWN, PRO_MASK, PRO_UP, RELEASE, Dsky
-from judge import AGC, CONSOLE, TOP, attempt, depends_on_time, finish, judge, scratch_folder
+from judge import AGC, CONSOLE, TOP, attempt, depends_on_time, finish, judge, scratch_folder, slowness, soon
 
 agc, console, top, scratch = AGC, CONSOLE, TOP, scratch_folder()
 
@@ -358,14 +360,18 @@ def try_limits():
         judge("half a packet for longer", "a fault", client.check(15.1))
     except instruments.Fault as fault:
         judge("half a packet for longer", "it left a packet half sent", str(fault))
-    said = io.StringIO()
-    with contextlib.redirect_stderr(said):
-        log = instruments.Log()
-        for number in range(1000):
-            log(str(number))
+    said, seconds = io.StringIO(), iter([7.0] * 500 + [8.5] * 500)
+    try:
+        setattr(instruments, "time", types.SimpleNamespace(monotonic=lambda: next(seconds)))
+        with contextlib.redirect_stderr(said):
+            log = instruments.Log()
+            for number in range(1000):
+                log(str(number))
+    finally:
+        setattr(instruments, "time", time)
     lines = said.getvalue().splitlines()
-    judge("100 lines a second, in one or two seconds", True, 101 <= len(lines) <= 202)
-    judge("and no more", "instruments: more lines of this second are left out", lines[-1])
+    judge("100 lines a second, in two seconds", 202, len(lines))
+    judge("and no more", ["instruments: more lines of this second are left out"] * 2, [lines[100], lines[201]])
 
 
 def try_addresses():
@@ -442,7 +448,7 @@ def echoed(dsky, **wanted):
         return {name: (each.words(channel) or [None])[-1] for name, channel in channels.items()}
 
     dsky.drain()
-    dsky.until(lambda each: last(each) == wanted, 10)
+    dsky.until(lambda each: last(each) == wanted)
     return last(dsky)
 
 
@@ -579,7 +585,7 @@ def try_four():
             time.sleep(0.05)
     judge("the port of the killed one is free", ["NOUN 47"], again.shown()[2:3])
     second = Dsky(program.port)
-    judge("a second client on a port is turned away", (False, []), (second.lasts(10), second.packets))
+    judge("a second client on a port is turned away", (False, []), (second.lasts(), second.packets))
     judge("and told", True, program.wait_for(f"port {program.port} has a client already"))
     for _ in range(20):
         Dsky(program.port + 4).close()
@@ -599,7 +605,7 @@ def pour(dsky, data):
             dsky.take(0)
     except OSError:
         return True
-    return not dsky.lasts(10)
+    return not dsky.lasts()
 
 
 def try_request():
@@ -613,7 +619,7 @@ def try_request():
             for piece in pieces:
                 dsky.socket.sendall(piece)
                 time.sleep(0.05)
-        judge(f"a request {what} loses its connection", False, dsky.lasts(10))
+        judge(f"a request {what} loses its connection", False, dsky.lasts())
     judge("it is told", 3, sum("it sends rubbish, and loses its connection" in line for line in program.lines()))
     sound = program.dsky(1)
     data = bytes.fromhex(KEYS["4"] + RELEASE + KEYS["2"] + RELEASE)
@@ -652,7 +658,7 @@ def try_rubbish():
     begun = time.monotonic()
     witness.keys("4")
     judge("the first client is still served", True, witness.until(lambda each: each.shown()[2].endswith("4")))
-    judge("and soon", True, time.monotonic() - begun < 5)
+    soon("and soon", begun, 5)
     judge("the status", 0, program.end())
     judge("no keys of the flood are left over", True, program.commands().count("key 1") <= 3)
     judge("the flood of pulses was cut", True, sum("pulse" in each for each in program.commands()) <= 20_000)
@@ -685,8 +691,8 @@ class Beside:
         self.session.inject(lambda machine: machine.go_to(cycle))
 
     def script(self, events):
-        """The lines of the script, once there are so many, or after two seconds."""
-        end = time.monotonic() + 2
+        """The lines of the script, once there are so many, or after LONGEST."""
+        end = time.monotonic() + LONGEST
         while self.session.script().count("\n") < events and time.monotonic() < end:
             time.sleep(0.01)
         time.sleep(0.1)  # so that one event too many is seen
@@ -747,7 +753,7 @@ def try_gaps():
         other = Dsky(beside.port + 1).welcomed()
         other.keys("6", "7")
         other.socket.sendall(b"\xff" * 40)
-        judge("who sends rubbish goes", False, other.lasts(10))
+        judge("who sends rubbish goes", False, other.lasts())
         other = Dsky(beside.port + 2).welcomed()
         other.keys("8")
         other.close()
@@ -757,8 +763,11 @@ def try_gaps():
         keys = [line for line in beside.script(8) if "key" in line]
         judge("keys of who sent rubbish are dropped, of who has gone are pressed", ["25599 key 8"], keys[2:])
         dsky.keys(*["1"] * 70)
-        judge("no key is given before its time", 8, len(beside.script(9)))
+        end = time.monotonic() + LONGEST
+        while beside.served.refused < 6 and time.monotonic() < end:
+            time.sleep(0.02)
         judge("64 keys wait, and those after them are refused", 6, beside.served.refused)
+        judge("no key is given before its time", 8, len(beside.script(8)))
         refused = f"instruments: port {beside.port}: input refused: 64 keys wait already"
         judge("each is told", 6, beside.said.getvalue().splitlines().count(refused))
 
@@ -848,7 +857,7 @@ def try_speed():
     time.sleep(1)
     judge("the status", 0, program.end())
     times = program.limit() / 85_333
-    judge(f"ten times as fast ({times:.1f} s of machine time)", True, 4 < times < 11 * (time.monotonic() - begun))
+    judge(f"ten times as fast ({times:.1f} s of machine time)", True, 4 / slowness() < times < 11 * (time.monotonic() - begun))
 
 
 def try_ends():
@@ -870,7 +879,7 @@ def try_ends():
         os.kill(child, signal.SIGKILL)
     judge("a console that is killed ends it", (True, 1), (len(inside) > 0, program.ended()))
     judge("it is told", "instruments: agc-console has ended: ", program.lines()[-1][:36])
-    judge("the client sees the end", False, dsky.lasts(10))
+    judge("the client sees the end", False, dsky.lasts())
     judge("its script is saved", ["key 4"], program.commands())
 
 
@@ -892,10 +901,10 @@ def try_standing_still():
         for number in signals:
             os.kill(program.process.pid, number)
         judge(f"{what}: the status", 0, program.ended())
-        judge(f"{what}: it ends soon ({time.monotonic() - begun:.2f} s)", True, time.monotonic() - begun < 2)
+        soon(f"{what}: it ends soon", begun, 2)
         judge(f"{what}: the script is saved", ["key 4"], program.commands())
         judge(f"{what}: nothing else is said", [], [line for line in program.lines() if not line.startswith("instruments: port")])
-        end = time.monotonic() + 5  # a process that has ended stays in /proc for a moment
+        end = time.monotonic() + LONGEST  # a process that has ended stays in /proc for a moment
         while os.path.exists(f"/proc/{console_process}") and time.monotonic() < end:
             time.sleep(0.02)
         judge(f"{what}: no console is left", False, os.path.exists(f"/proc/{console_process}"))
@@ -952,7 +961,7 @@ def try_going_back():
         session.go_there(0, sure=True)
         judge("back to the start", True, dsky.until(lambda each: each.shown()[2] == "NOUN __"))
         judge("nothing was refused", 0, beside.served.refused)
-    judge("the client sees the end", False, dsky.lasts(10))
+    judge("the client sees the end", False, dsky.lasts())
     told = beside.said.getvalue().splitlines()
     judge("what is said", f"instruments: ports {beside.port} to {beside.port + 9} of 127.0.0.1", told[0])
 
@@ -967,14 +976,19 @@ def try_long_ago():
         session.inject(lambda machine: machine.go_to(4 * 10**8))
         run = time.monotonic() - begun
         session.inject(lambda machine: machine.quiet(False))
-        begun = time.monotonic()
-        for _ in range(3):
-            session.step()
-            time.sleep(0.03)
-        took = time.monotonic() - begun
+        took = min(three_steps(session) for _ in range(5))
         judge(f"three steps take {took:.2f} s, the run took {run:.2f}", True, took < run / 2)
         wanted = session.inject(lambda machine: machine.panel())
         judge("the client sees what is shown", True, dsky.until(lambda each: each.shown()[3] == f"R1 {wanted['R1']}"))
+
+
+def three_steps(session):
+    """How long three steps take, of which each is shown."""
+    begun = time.monotonic()
+    for _ in range(3):
+        session.step()
+        time.sleep(0.03)
+    return time.monotonic() - begun
 
 
 def try_late():
@@ -988,6 +1002,12 @@ def try_late():
         judge("what was shown before", "NOUN _4", Dsky(beside.port).welcomed().shown()[2])
 
 
+def script_at(url):
+    """The script that agc-web has at this address."""
+    with urllib.request.urlopen(url.replace("/?", "/script?"), timeout=LONGEST) as answer:
+        return answer.read().decode()
+
+
 def try_page():
     """agc-web with instruments: time has not begun, and a key goes down at once"""
     port = free_port()
@@ -997,16 +1017,18 @@ def try_page():
         judge("it begins", f"instruments: ports {port} to {port + 9} of 127.0.0.1", page.stderr.readline().rstrip())
         dsky = Dsky(port).welcomed()
         judge("what a new client receives", WELCOME, [packet[:2] for packet in dsky.packets])
-        page.stdout.readline()
+        url = page.stdout.readline().split()[0]
         dsky.keys("4")
         dsky.send("037880c0")  # the word 0 for channel 37, which has it already
         dsky.send("037880c1")
-        time.sleep(0.5)
+        end = time.monotonic() + LONGEST
+        while script_at(url).count("\n") < 2 and time.monotonic() < end:
+            time.sleep(0.05)
     finally:
         page.send_signal(signal.SIGINT)
         out, _ = page.communicate(timeout=LONGEST)
     judge("its script", "0 key 4\n0 input 37 00001\n", "".join(line for line in out.splitlines(True) if line[0].isdigit()))
-    judge("the client sees the end", False, dsky.lasts(10))
+    judge("the client sees the end", False, dsky.lasts())
 
 
 depends_on_time(Program.kill_all)
