@@ -1,228 +1,339 @@
-# KEPLER: the orbit's program
+# KEPLER: the orbit's numbers. ORBJOB is the one job that uses the interpreter. A scale in brackets says in which unit a number is a fraction:
+# [25] is 2 to the 25th power m, m/s or s, [0] is 1.
         BANK    5
-ORBIT   TC      INTPRET
+# ORBJOB does what WANTS says, the last cell first.
+ORBJOB  CA      ADRWORK
+        TS      FIXLOC
+        TS      PUSHLOC
+ORBNEXT INHINT
+        CA      FOUR
+ORBLOOK TS      WANTNO
+        INDEX   WANTNO
+        CCS     WANTS
+        TCF     ORBDO
+        CCS     WANTNO
+        TCF     ORBLOOK
+        TS      ORBON       # nothing more
+        TC      ENDOFJOB
+ORBDO   CA      ZERO
+        TS      OVFIND
+        INDEX   WANTNO
+        TS      WANTS
+        RELINT
+        INDEX   WANTNO
+        TCF     ORBTAB
+ORBTAB  TCF     DOORBIT
+        TCF     DOPLAN
+        TCF     DOBURN
+        TCF     DOLOAD
+        TCF     DOFIRST
+ADRWORK ADRES   WORKAREA
+# ORBWRONG: what was keyed is no orbit that this program can compute: OPR ERR.
+ORBWRONG CA     BIT7
+        EXTEND
+        WOR     LAMPS
+        TCF     ORBNEXT
+
+DOFIRST TC      INTPRET
         VLOAD
                 RSTART
         STOVL   RVEC
                 VSTART
-        STODL   VVEC
-                DTSTART
-        STORE   DT
+        STORE   VVEC
         EXIT
-AGAIN   TC      INTPRET
-        CALL
-                ELEMENTS
-        EXIT
-        CA      TIME1
-        TS      LASTTICK
-SHOWALL TC      SHOW
-WAIT    CCS     KEYCODE
-        TCF     KEY
-        CS      LASTTICK    # a second is over?
-        AD      TIME1
+        CA      ONE
+        TS      STATEOK
         EXTEND
-        BZMF    +2          # (TIME1 has begun anew)
-        TCF     +3
-        AD      POSMAX
-        AD      ONE
-        AD      LESS100
-        EXTEND
-        BZMF    WAIT
-        CA      LASTTICK
-        AD      HUNDRED
-        XCH     LASTTICK
-        TC      INTPRET
-        DLOAD   DSU
-                TFP
-                ONESEC
-        BPL     DAD
-                NOTYET
-                PERIOD
-NOTYET  STORE   TFP
-        DDV
-                SECONDS
-        STORE   SHOWN +4
-        EXIT
-        TCF     SHOWALL
-KEY     CA      ZERO
-        XCH     KEYCODE
-        TS      CARRY
-        AD      LESSENTR
-        EXTEND
-        BZF     AGAIN
-        CA      CARRY
-        AD      LESSPLUS
-        EXTEND
-        BZF     STEP
-        CA      CARRY
-        AD      LESSMIN
-        EXTEND
-        BZF     MANEUVER
-        TCF     WAIT
-MANEUVER TC     INTPRET
-        CALL
-                BURN
-        EXIT
-        TCF     AGAIN
-STEP    TC      INTPRET
-        CALL
-                ELEMENTS
-        CALL
-                KEPLER
-        EXIT
-        TCF     AGAIN
-HUNDRED DEC     100
-LESS100 DEC     -100
-LESSENTR DEC    -28
-LESSPLUS DEC    -26
-LESSMIN DEC     -27
+        DCA     TIME2
+        DXCH    TSTATE
 
-# SHOW: VERB 82, the apolune and the perilune in tenths of a nautical mile, the time to perilune in seconds
-SHOW    EXTEND
-        QXCH    RETURNQ
-        CA      VERB82
-        EXTEND
-        WRITE   RELAYS
-        CA      NOUN44
-        EXTEND
-        WRITE   RELAYS
-        CA      TWO
-SHOW1   TS      REGNO
-        DOUBLE
-        TS      TEM
-        INDEX   TEM
-        CA      SHOWN
-        EXTEND
-        BZF     +2
-        TCF     +3
-        INDEX   TEM
-        CA      SHOWN +1
-        EXTEND
-        BZF     +3
-        EXTEND
-        BZMF    SHOWNEG
-        CA      ZERO
-        INDEX   REGNO
-        TS      SIGNS
-        EXTEND
-        INDEX   TEM
-        DCA     SHOWN
-        TCF     +7
-SHOWNEG CA      ONE
-        INDEX   REGNO
-        TS      SIGNS
-        EXTEND
-        INDEX   TEM
-        DCS     SHOWN
-        DXCH    FRAC
-        EXTEND              # to the nearest
-        DCA     HALFUNIT
-        DAS     FRAC
-        EXTEND
-        BZF     +4
-        EXTEND
-        DCA     MOST
-        DXCH    FRAC
-        CA      REGNO
-        EXTEND
-        MP      FIVE
-        LXCH    DIGITNO
-        CA      FOUR
-SHOW2   TS      COUNT
-        CA      FRAC +1     # ten times the rest: the digit, and a new rest
-        EXTEND
-        MP      TEN
-        TS      CARRY
-        LXCH    FRAC +1
-        CA      FRAC
-        EXTEND
-        MP      TEN
-        TS      TEM
-        CA      L
-        AD      CARRY
-        TS      FRAC        # if there is overflow, the digit is one more
-        CA      ZERO
-        AD      TEM
-        INDEX   A
-        CA      CODES
-        INDEX   DIGITNO
-        TS      DIGITS +1
-        INCR    DIGITNO
-        CCS     COUNT
-        TCF     SHOW2
-        CCS     REGNO
-        TCF     SHOW1
-        CA      SEVEN       # eight rows of two digits, and signs
-SHOW3   TS      COUNT
-        DOUBLE
-        TS      TEM
-        INDEX   TEM
-        CA      DIGITS
-        EXTEND
-        MP      BIT6
-        LXCH    CARRY
-        INDEX   TEM
-        CA      DIGITS +1
-        ADS     CARRY
-        INDEX   COUNT
-        CA      SIGNREG
-        EXTEND
-        BZMF    SHOW4       # minus: the row's bit is that for minus
-        AD      NEGONE
-        INDEX   A
-        CS      SIGNS
-        AD      ONE
-        TCF     SHOW5
-SHOW4   COM
-        EXTEND
-        BZF     SHOW5
-        AD      NEGONE
-        INDEX   A
-        CA      SIGNS
-SHOW5   EXTEND
-        BZF     +2
-        CA      BIT11
-        AD      CARRY
-        INDEX   COUNT
-        AD      ROWS
-        EXTEND
-        WRITE   RELAYS
-        CCS     COUNT
-        TCF     SHOW3
-        TC      RETURNQ
-HALFUNIT 2DEC   .000005
-VERB82  OCT     51671       # relay row 10: 8 and 2
-NOUN44  OCT     44757       # relay row 9: 4 and 4
-FIVE    DEC     5
-TEN     DEC     10
-SEVEN   DEC     7
-BIT6    OCT     00040
-ROWS    OCT     40000       # relay row 8 has one digit
-        OCT     34000
-        OCT     30000
-        OCT     24000
-        OCT     20000
-        OCT     14000
-        OCT     10000
-        OCT     04000
-SIGNREG DEC     0           # of which register a row has the sign, from 1 on: plus, and minus as a minus
-        DEC     1
-        DEC     -1
-        DEC     2
-        DEC     -2
-        DEC     0
-        DEC     3
-        DEC     -3
-CODES   OCT     25
-        OCT     03
-        OCT     31
-        OCT     33
-        OCT     17
-        OCT     36
-        OCT     34
-        OCT     23
-        OCT     35
-        OCT     37
+# The orbit at this moment, for verb 82.
+DOORBIT EXTEND
+        DCA     TIME2
+        DXCH    TARGET
+        TC      INTPRET
+        CALL
+                ADVANCE
+        CALL
+                ELEMENTS
+        DLOAD   DMP
+                TFP
+                TOCS
+        DAD
+                TSTATE
+        STODL   TPERI
+                CSPERIOD
+        STODL   PERCS
+                APO
+        DMP     SRR
+                TOMILES
+                9D
+        STODL   HAPO
+                PERI
+        DMP     SRR
+                TOMILES
+                9D
+        STODL   HPERI
+                TSTATE
+        STODL   TIMEN
+                RVEC
+        DMP     SRR
+                TOPLACE
+                9D
+        STODL   PLACEN
+                RVEC +2
+        DMP     SRR
+                TOPLACE
+                9D
+        STODL   PLACEN +2
+                RVEC +4
+        DMP     SRR
+                TOPLACE
+                9D
+        STODL   PLACEN +4
+                VVEC
+        DMP     SRR
+                TOSPEED
+                12D
+        STODL   SPEEDN
+                VVEC +2
+        DMP     SRR
+                TOSPEED
+                12D
+        STODL   SPEEDN +2
+                VVEC +4
+        DMP     SRR
+                TOSPEED
+                12D
+        STORE   SPEEDN +4
+        EXIT
+        TCF     ORBNEXT
+
+# Nouns 95, 96 and 38 become the state. If that is no orbit that can be computed, the old one stays.
+DOLOAD  TC      INTPRET
+        CALL
+                KEEP
+        DLOAD   SL
+                PLACEN
+                10D
+        DMP
+                OFPLACE
+        STODL   RVEC
+                PLACEN +2
+        SL      DMP
+                10D
+                OFPLACE
+        STODL   RVEC +2
+                PLACEN +4
+        SL      DMP
+                10D
+                OFPLACE
+        STODL   RVEC +4
+                SPEEDN
+        SL      DMP
+                13D
+                OFSPEED
+        STODL   VVEC
+                SPEEDN +2
+        SL      DMP
+                13D
+                OFSPEED
+        STODL   VVEC +2
+                SPEEDN +4
+        SL      DMP
+                13D
+                OFSPEED
+        STODL   VVEC +4
+                TIMEN
+        STORE   TSTATE
+        BOV     CALL
+                BADLOAD
+                CHECK
+        BMN     EXIT
+                BADLOAD
+        TCF     DOORBIT
+BADLOAD CALL
+                RESTORE
+        EXIT
+        TCF     ORBWRONG
+
+# Program 30: the orbit as it is after the burn of nouns 33 and 81. The state stays.
+DOPLAN  TC      INTPRET
+        CALL
+                KEEP
+        DLOAD
+                TIG
+        STCALL  TARGET
+                THEBURN
+        BMN     DLOAD
+                BADPLAN
+                APO
+        DMP     SRR
+                TOMILES
+                9D
+        STODL   HAPO2
+                PERI
+        DMP     SRR
+                TOMILES
+                9D
+        STCALL  HPERI2
+                RESTORE
+        EXIT
+        CA      ONE
+        TS      BURNOK
+        TCF     ORBNEXT
+BADPLAN CALL
+                RESTORE
+        EXIT
+        TCF     ORBWRONG
+
+# The burn, at its time. If the orbit could not be computed, there is none.
+DOBURN  CA      ZERO
+        TS      BURNSET
+        TC      INTPRET
+        CALL
+                KEEP
+        DLOAD
+                TBURN
+        STCALL  TARGET
+                THEBURN
+        BMN     DLOAD
+                BADPLAN
+                DVMAG
+        STODL   VDONE
+                NOUGHT
+        STORE   VGO
+        EXIT
+        TCF     DOORBIT
+
+# THEBURN: the state at TARGET, with the burn of noun 81, and its elements. MPAC is minus if they cannot be computed.
+THEBURN STQ     CALL
+                BURNQ
+                ADVANCE
+        BOV     DLOAD       # what came before does not count
+                NOWBURN
+                NOUGHT
+NOWBURN DLOAD   SL
+                BURNN
+                13D
+        DMP
+                OFSPEED
+        STODL   BURNV
+                BURNN +2
+        SL      DMP
+                13D
+                OFSPEED
+        STODL   BURNV +2
+                BURNN +4
+        SL      DMP
+                13D
+                OFSPEED
+        STORE   BURNV +4
+        BOV     VLOAD
+                BURNBAD
+                BURNV
+        ABVAL   DMP
+                TOSPEED
+        SRR
+                12D
+        STCALL  DVMAG
+                BURN
+        BOV     CALL
+                BURNBAD
+                CHECK
+        GOTO
+                BURNQ
+BURNBAD DLOAD   GOTO
+                LESSHALF
+                BURNQ
+
+# KEEP and RESTORE: the state is kept, and comes back.
+KEEP    VLOAD
+                RVEC
+        STOVL   RKEPT
+                VVEC
+        STODL   VKEPT
+                TSTATE
+        STORE   TKEPT
+        RVQ
+RESTORE VLOAD
+                RKEPT
+        STOVL   RVEC
+                VKEPT
+        STODL   VVEC
+                TKEPT
+        STORE   TSTATE
+        RVQ
+
+# CHECK: ELEMENTS, and MPAC minus if this is no ellipse that the program can compute: half its axis from 869 to 27000 km, e up to .9.
+CHECK   STQ     VLOAD
+                CHECKQ
+                VVEC
+        VSQ     PDVL
+                RVEC
+        ABVAL   DMP         # r v v [49]: below 2 mu
+        DSU     BPL
+                TWOMU
+                BADORB
+        CALL
+                ELEMENTS
+        DLOAD   DSU
+                SMA
+                SMAMOST
+        BPL     DLOAD
+                BADORB
+                SMA
+        DSU     BMN
+                SMALEAST
+                BADORB
+        DLOAD   DMP
+                SMA
+                MU          # [68]
+        PDVL    VXV
+                RVEC
+                VVEC        # [37]
+        ABVAL   DSQ
+        DDV
+        DSU     BMN         # 1 - e e [6]
+                ECCLEAST
+                BADORB
+        DLOAD   GOTO
+                HALF
+                CHECKQ
+BADORB  DLOAD   GOTO
+                LESSHALF
+                CHECKQ
+
+# ADVANCE: the state goes to the time TARGET, by less than a turn.
+ADVANCE STQ     CALL
+                ADVQ
+                ELEMENTS
+        DLOAD   DMPR
+                PERIOD
+                TOCS
+        STODL   CSPERIOD
+                TARGET
+        DSU
+                TSTATE
+BEFORE  BPL     DAD
+                BEHIND
+                CSPERIOD
+        GOTO
+                BEFORE
+BEHIND  DSU     BPL
+                CSPERIOD
+                BEHIND
+        DAD     DMP
+                CSPERIOD
+                OFCS
+        SL3R
+        STCALL  DT
+                KEPLER
+        DLOAD
+                TARGET
+        STORE   TSTATE
+        GOTO
+                ADVQ
 
 # ELEMENTS: what orbit it is. With X = r v v / mu, e cos E is X - 1, and a is r / (2 - X).
 ELEMENTS VLOAD  ABVAL
@@ -237,6 +348,8 @@ ELEMENTS VLOAD  ABVAL
         DSU     SL1
                 HALF        # 1 [1]
         STORE   ECOS
+        RTB
+                LETTHEM
         SR1     BDSU
                 HALF        # (2 - X) [1]
         PDDL    SR1
@@ -247,6 +360,8 @@ ELEMENTS VLOAD  ABVAL
         DDV     SQRT
                 MU
         STORE   SQAMU
+        RTB
+                LETTHEM
         DMP     DMP
                 SMA         # 1 / n [16] s
                 PIOVER4     # 2 pi [3]
@@ -260,27 +375,25 @@ ELEMENTS VLOAD  ABVAL
         SL3     DDV
         STADR
         STORE   ESIN
+        RTB
+                LETTHEM
         DLOAD   PDDL
                 NOUGHT
                 ESIN
         PDDL    VDEF
                 ECOS
-        ABVAL
+        UNIT                # half of the cosine and of the sine, and in EANOM a zero
+        STODL   COSHALF
+                36D
         STORE   ECC
+        RTB
+                LETTHEM
         DSU     BMN
                 CIRCLE
                 ROUNDORB
-        DLOAD   SR1
-                ECOS
-        DDV
-                ECC
-        STODL   COSHALF
-                ESIN
-        SR1     DDV
-                ECC
-        STODL   SINHALF
+        DLOAD   ABS
                 COSHALF
-        ABS     DSU
+        DSU
                 SINE45
         BMN
                 BYCOSINE
@@ -314,6 +427,8 @@ BYCOSINE DLOAD  ARCCOS
 MEANANOM DLOAD  DMP
                 ESIN
                 ONEOV2PI
+        RTB
+                LETTHEM
         BDSU
                 EANOM
         STORE   MANOM
@@ -325,6 +440,8 @@ MEANANOM DLOAD  DMP
 PERITIME DMP
                 PERIOD
         STORE   TFP
+        RTB
+                LETTHEM
         DLOAD   SR1
                 ECC
         PUSH    DAD
@@ -339,17 +456,6 @@ PERITIME DMP
         DSU
                 RMOON
         STORE   PERI
-        DDV
-                TENTHS
-        STODL   SHOWN +2
-                APO
-        DDV
-                TENTHS
-        STODL   SHOWN
-                TFP
-        DDV
-                SECONDS
-        STORE   SHOWN +4
         RVQ
 
 # KEPLER: the state DT later. Behind ELEMENTS.
@@ -364,6 +470,8 @@ KEPLER  VLOAD   UNIT
         VSL2    BVSU
         UNIT
         STORE   PVEC
+        RTB
+                LETTHEM
         VLOAD   VXV
                 RVEC
                 VVEC
@@ -372,6 +480,8 @@ KEPLER  VLOAD   UNIT
         UNIT
         STODL   QVEC
                 DT
+        RTB
+                LETTHEM
         DDV     DAD
                 PERIOD
                 MANOM
@@ -405,6 +515,8 @@ KEPLOOP DLOAD   SINE
         BDSU
                 EANOM
         STORE   EANOM
+        RTB
+                LETTHEM
         TIX,1
                 KEPLOOP
         DLOAD   COSINE
@@ -431,6 +543,8 @@ KEPLOOP DLOAD   SINE
         VSL1
         STODL   RNEW
                 EANOM
+        RTB
+                LETTHEM
         SINE    DCOMP
         VXSC    PDDL
                 PVEC        # [2]
@@ -443,6 +557,8 @@ KEPLOOP DLOAD   SINE
         STADR
         STODL   VNEW        # [4]
                 EANOM
+        RTB
+                LETTHEM
         COSINE  DMP
                 ECC
         BDSU    V/SC
@@ -494,13 +610,21 @@ ONEOVPI 2DEC    .3183098862
 SINE45  2DEC    .3535533906
 CIRCLE  2DEC    .00001
 RMOON   2DEC    1738090 B-26 # the landing site's radius, m
-TENTHS  2DEC    18520000 B-26 # 10000 nautical miles
-SECONDS 2DEC    100000 B-19
-ONESEC  2DEC    1 B-19
+TWOMU   2DEC    9.805556 E12 B-49
+SMAMOST 2DEC    27 E6 B-25
+SMALEAST 2DEC   869045 B-25
+ECCLEAST 2DEC   .19 B-6
+LESSHALF 2DEC   -.5
+TOCS    2DEC    .1953125    # [19] s in hundredths of a second: 100 by 2 to the 9th power,
+OFCS    2DEC    .64         # and back: 5.12 by 8
+TOMILES 2DEC    .6911447084 # [26] m in 0.1 nautical miles: 2 to the 7th power by 185.2
+TOPLACE 2DEC    .64         # [25] m in 0.1 km: 2 to the 6th power by 100,
+OFPLACE 2DEC    .78125      # and back: 100 by 2 to the 7th power
+TOSPEED 2DEC    .625        # [12] m/s in 0.1 m/s: 10 by 2 to the 4th power,
+OFSPEED 2DEC    .8          # and back
 RSTART  2DEC    1838090 B-25 # 100 km up, on a circle
         2DEC    0
         2DEC    0
 VSTART  2DEC    0
         2DEC    1633.2 B-12
         2DEC    0
-DTSTART 2DEC    600 B-19

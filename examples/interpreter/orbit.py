@@ -1,5 +1,5 @@
 #!/usr/bin/env python3
-"""Loads an orbit around the Moon into orbit.rope, presses its keys, and prints what the DSKY shows beside double arithmetic."""
+"""Types an orbit around the Moon and a burn into orbit.rope, and prints what the DSKY shows beside double arithmetic."""
 
 import argparse
 import math
@@ -14,8 +14,12 @@ ROPE, NAMES = os.path.join(here, "orbit.rope"), os.path.join(here, "orbit.names"
 MU = 4.902778e12  # m3/s2
 RADIUS = 1738090.0  # m, where heights begin
 MILE = 1852.0  # m, a nautical mile
-PLACE, SPEED, TIME = 25, 12, 19  # the scales of the program: a number is a fraction of this power of two
-COMPUTING = 300_000  # cycles that a key's computation takes at most
+PLACE, SPEED = 25, 12  # the scales of the program: a number is a fraction of this power of two
+SECOND = 256000 / 3  # cycles
+KEY_CYCLES = 9000  # from a key to the next one
+COMPUTING = 400_000  # cycles that ORBJOB takes at most for what a key asks
+REFRESH = 80_000  # cycles until the display has it: half a second to DISPJOB, a quarter for the rows
+KEYS = {"V": "VERB", "N": "NOUN", "E": "ENTR", "P": "PRO", "C": "CLR", "K": "KEYREL", "R": "RSET"}
 
 
 def cross(a, b):
@@ -55,6 +59,23 @@ def elements(place, speed):
     return axis * (1 + e) - RADIUS, axis * (1 - e) - RADIUS, left, 2 * math.pi / rate
 
 
+def later(place, speed, seconds):
+    """The state some seconds later, on the orbit."""
+    axis = 1 / (2 / size(place) - dot(speed, speed) / MU)
+    rate = math.sqrt(MU / axis**3)
+    across, along = 1 - size(place) / axis, dot(place, speed) / math.sqrt(MU * axis)
+    turn = angle = rate * seconds
+    for _ in range(200):  # Kepler's equation for the angle from here
+        miss = angle - across * math.sin(angle) + along * (1 - math.cos(angle)) - turn
+        angle -= miss / (1 - across * math.cos(angle) + along * math.sin(angle))
+    radius = axis * (1 - across * math.cos(angle) + along * math.sin(angle))
+    f = 1 - axis / size(place) * (1 - math.cos(angle))
+    g = seconds - (angle - math.sin(angle)) / rate
+    fdot = -math.sqrt(MU * axis) * math.sin(angle) / (radius * size(place))
+    gdot = 1 - axis / radius * (1 - math.cos(angle))
+    return [f * x + g * v for x, v in zip(place, speed)], [fdot * x + gdot * v for x, v in zip(place, speed)]
+
+
 def burnt(place, speed, burn):
     """The speed after a burn: forward, to the right, down."""
     down = [-part / size(place) for part in place]
@@ -63,11 +84,37 @@ def burnt(place, speed, burn):
     return [old + dot(burn, axes) for old, axes in zip(speed, zip(forward, right, down))]
 
 
-def words(value, scale):
-    """The two words of a number."""
-    number = round(value * 2.0 ** (28 - scale))
-    parts = [abs(number) >> 14, abs(number) & 0o37777]
-    return [part ^ 0o77777 if number < 0 else part for part in parts]
+def number(value):
+    """A number as it is keyed: a sign and five digits."""
+    whole = round(value)
+    if abs(whole) > 99999:
+        raise ValueError(f"{value:.0f} has no place in five digits")
+    return f"{whole:+06d}"
+
+
+def three(values, unit):
+    return "".join(number(value / unit) + "E" for value in values)
+
+
+def time(seconds):
+    """A time as it is keyed: hours, minutes, hundredths of a second."""
+    minutes, hundredths = divmod(round(seconds * 100), 6000)
+    return three((*divmod(minutes, 60), hundredths), 1)
+
+
+def keyed_state(place, speed, seconds):
+    """The keys that load a state and its time: nouns 95, 96 and 38."""
+    return "V25N95E" + three(place, 100) + "V25N96E" + three(speed, 0.1) + "V25N38E" + time(seconds)
+
+
+def keyed_burn(seconds, burn):
+    """The keys of program 30 up to the planned orbit: nouns 33 and 81."""
+    return "V37E30E" + "V25N33E" + time(seconds) + "P" + "V25N81E" + three(burn, 0.1) + "P"
+
+
+def keyed(values, unit):
+    """Numbers as the program gets them."""
+    return [round(value / unit) * unit for value in values]
 
 
 class Orbit(Console):
@@ -75,13 +122,34 @@ class Orbit(Console):
 
     def __init__(self, rope=ROPE, names=NAMES, **options):
         super().__init__(rope, names=names, **options)
-        with open(names) as file:
-            self.offsets = {name: int(place[3:], 8) - 0o1400 for place, name in map(str.split, file) if place.startswith("E3,")}
-        self.shows()
+        self.go(round(0.5 * SECOND))
+        self.computed()
 
-    def put(self, name, values, scale):
-        for n, word in enumerate(word for value in values for word in words(value, scale)):
-            self.poke(3, self.offsets[name] + n, word)
+    def type(self, keys):
+        """Presses keys, ten a second: V, N, E (ENTR), P (PRO), C (CLR), K (KEY REL), R (RSET), digits and signs."""
+        for key in keys:
+            if key == "P":
+                self.pro(True)
+                self.go(3 * KEY_CYCLES)
+                self.pro(False)
+            else:
+                self.key(KEYS.get(key, key))
+            self.go(KEY_CYCLES)
+
+    def computed(self):
+        """Waits until what was asked is computed and shown."""
+        end = self.cycle + COMPUTING
+        while self.cell("ORBON"):
+            if self.cycle > end:
+                raise Error("the program does not end its computation")
+            self.go(KEY_CYCLES)
+        self.go(REFRESH)
+
+    def show(self, keys):
+        """Presses keys, waits, and returns the panel."""
+        self.type(keys)
+        self.computed()
+        return self.panel()
 
     def value(self, name, scale, beyond=0):
         high, low = self.cells(f"{name}+{beyond}" if beyond else name, 2)
@@ -91,69 +159,83 @@ class Orbit(Console):
     def vector(self, name, scale):
         return [self.value(name, scale, beyond) for beyond in (0, 2, 4)]
 
-    def load(self, place, speed, step=0.0, burn=(0.0, 0.0, 0.0)):
-        self.put("RVEC", place, PLACE)
-        self.put("VVEC", speed, SPEED)
-        self.put("DT", [step], TIME)
-        self.put("BURNV", burn, SPEED)
-
-    def press(self, key):
-        """Presses a key, and waits until its numbers are shown."""
-        self.key(key)
-        self.shows()
-
-    def shows(self):
-        """Waits until the computed numbers are shown."""
-        for name in ("AGAIN", "SHOW", "WAIT"):
-            if not self.until(name, COMPUTING).came:
-                raise Error(f"the program does not come to {name}")
-
-    def shown(self):
-        """The registers: heights in m, and seconds."""
-        r1, r2, r3 = (int(self.panel()[name]) for name in ("R1", "R2", "R3"))
-        return r1 * MILE / 10, r2 * MILE / 10, float(r3)
+    def seconds(self, name):
+        """A time of the program in seconds."""
+        return self.value(name, 28) / 100
 
 
-def line(orbit, title, place, speed):
+def line(title, panel, place, speed, wait=None):
     """Prints what is shown and what Python computes."""
     far, near, left, _ = elements(place, speed)
-    panel = orbit.panel()
     shown = " ".join(panel[name] for name in ("VERB", "NOUN", "R1", "R2", "R3"))
-    print(f"{title:12} {shown}    {far / MILE:8.2f} {near / MILE:8.2f} {left:9.1f}")
+    to_go = "" if wait is None else "{:8.0f}:{:04.1f}".format(*divmod((left - wait) % elements(place, speed)[3], 60))
+    print(f"{title:12} {shown}    {far / MILE:8.2f} {near / MILE:8.2f} {to_go}".rstrip())
 
 
-def arguments():
+def arguments(words=None):
     parser = argparse.ArgumentParser(description=__doc__)
     parser.add_argument("--apolune", type=float, default=170.0, help="nautical miles (default 170)")
     parser.add_argument("--perilune", type=float, default=60.0, help="nautical miles (default 60)")
     parser.add_argument("--since", type=float, default=600.0, help="seconds since perilune (default 600)")
     parser.add_argument("--inclination", type=float, default=10.0, help="degrees (default 10)")
-    parser.add_argument("--step", type=float, default=1800.0, help="seconds by which + moves the state on (default 1800)")
-    parser.add_argument("--burn", type=float, nargs=3, default=[-30.0, 0.0, 0.0], metavar=("FORWARD", "RIGHT", "DOWN"), help="m/s, for - (default -30 0 0)")
-    return parser.parse_args()
+    parser.add_argument("--step", type=float, default=1800.0, help="seconds until the burn (default 1800)")
+    parser.add_argument("--burn", type=float, nargs=3, default=[-30.0, 0.0, 0.0], metavar=("FORWARD", "RIGHT", "DOWN"), help="m/s (default -30 0 0)")
+    parser.add_argument("--web", action="store_true", help="show DSKY and orbit in a browser; you press the keys")
+    parser.add_argument("--port", type=int, help="the port of --web (8437, or a free one)")
+    return parser.parse_args(words)
+
+
+def show_in_browser(port):
+    """Shows DSKY and orbit in a browser until Control-C."""
+    import agc_web
+    import orbit_view
+    from agc_web.beside import guide_text
+
+    guide = guide_text(None, ROPE, lambda text: print(f"orbit.py: {text}", file=sys.stderr))
+    with Console(ROPE, names=NAMES, detached=True) as console:
+        try:
+            agc_web.serve(console, [orbit_view.Instrument()], port=port, names=NAMES, guide=guide)
+        except OSError as error:
+            sys.exit(f"orbit.py: {'port' if error.filename is None else error.filename}: {error.strerror}")
+
+
+def fly(given, **options):
+    """Loads, plans, waits for the burn, and prints a line each."""
+    place, speed = state(given.apolune * MILE, given.perilune * MILE, given.since, math.radians(given.inclination))
+    keys, burn = keyed_state(place, speed, 0), keyed(given.burn, 0.1)
+    place, speed = keyed(place, 100), keyed(speed, 0.1)
+    with Orbit(**options) as orbit:
+        print(f"{'':12} V  N  R1     R2     R3        {'apolune':>8} {'perilune':>8} {'min:sec':>11}")
+        panel = orbit.show(keys + "V82E")
+        if "OPR ERR" in panel["LAMPS"]:
+            raise Error("OPR ERR: the program cannot compute this orbit")
+        line("loaded", panel, place, speed, orbit.cycle / SECOND)
+        there, fast = later(place, speed, given.step)
+        faster = burnt(there, fast, burn)
+        panel = orbit.show(keyed_burn(given.step, burn))
+        if "OPR ERR" in panel["LAMPS"]:
+            raise Error("OPR ERR: the program cannot compute this orbit")
+        line("planned", panel, there, faster)
+        orbit.type("P")
+        orbit.quiet()
+        orbit.go_to(round((given.step + 2) * SECOND))
+        panel = orbit.show("V82E")
+        line("burnt", panel, there, faster, orbit.cycle / SECOND - given.step)
+        there, _ = later(there, faster, orbit.seconds("TSTATE") - given.step)
+        off = max(abs(one - two) for one, two in zip(orbit.vector("RVEC", PLACE), there))
+        print(f"at the end the place is off by {off:.1f} m at most")
 
 
 def main():
     given = arguments()
-    turned = math.radians(given.inclination)
-    heights = given.apolune * MILE, given.perilune * MILE
-    with Orbit() as orbit:
-        place, speed = state(*heights, given.since, turned)
-        orbit.load(place, speed, given.step, given.burn)
-        print(f"{'':12} V  N  R1     R2     R3        {'apolune':>8} {'perilune':>8} {'to go':>9}")
-        orbit.press("ENTR")
-        line(orbit, "loaded", place, speed)
-        orbit.press("+")
-        place, speed = state(*heights, given.since + given.step, turned)
-        line(orbit, f"+ {given.step:g} s", place, speed)
-        off = max(abs(one - two) for one, two in zip(orbit.vector("RVEC", PLACE), place))
-        orbit.press("-")
-        line(orbit, "burn", place, burnt(place, speed, given.burn))
-        print(f"after the step the place is off by {off:.1f} m at most")
+    if given.web:
+        show_in_browser(given.port)
+    else:
+        fly(given)
 
 
 if __name__ == "__main__":
     try:
         main()
-    except Error as error:
+    except (Error, ValueError) as error:
         sys.exit(f"orbit.py: {error}")

@@ -1,6 +1,5 @@
 """Tries of examples/interpreter: small programs in both halves of the memory, their results against double arithmetic."""
 
-import math
 import os
 import random
 import re
@@ -13,39 +12,20 @@ import cases
 import chains
 import costs
 import language
-import lines
-import orbit
+import orbits
 import run
 from agc import Console
-from judge import CONSOLE, STUDY, TOP, attempt, check, finish, judge, near, scratch_folder
+from judge import CONSOLE, STUDY, attempt, check, finish, judge, near, scratch_folder
 from model import UNIT, Model, whole
 from programs import HIGH_BANKS, LOW_BANKS, Line, Program, always_in_reach, banks_full, scalar, text
+from weaving import EXAMPLE, HERE, copied, read, weave, woven_by_lines
 
-EXAMPLE = os.path.join(TOP, "examples", "interpreter")
-HERE = os.path.dirname(os.path.realpath(__file__))
 CELLS, BEGUN, SHOWN = 0o60, 0o55, 0o56  # the channels on which the driver writes
 MOST_CYCLES = 20_000_000  # more than all programs of a rope take
 WORKAREA, STATE = 0o200, 0o55  # the work area's address, and the first word of switches behind it
 SEED, CHAINS = int(os.environ.get("SEED", 1)), int(os.environ.get("CHAINS", 200))
 OLD = b"no order or directive has this name"
 scratch = scratch_folder()
-
-
-def weave(folder, name):
-    """Weaves a source of a folder. Returns the weaver's end, and the path of the rope, which has its names beside it."""
-    rope = os.path.join(folder, "rope")
-    with open(rope, "wb") as file:
-        words = [STUDY, "weave", os.path.join(folder, name), "--write-names", rope + ".names", "--force"]
-        return subprocess.run(words, stdout=file, stderr=subprocess.PIPE), rope
-
-
-def copied(folder):
-    """Copies the example's sources to a new folder, and returns it."""
-    os.mkdir(folder)
-    for name in os.listdir(EXAMPLE):
-        if name.endswith(".agc"):
-            shutil.copy(os.path.join(EXAMPLE, name), folder)
-    return folder
 
 
 def woven(placed, folder, source=None):
@@ -55,30 +35,6 @@ def woven(placed, folder, source=None):
         file.write(source or text(placed))
     done, rope = weave(folder, "driver.agc")
     judge(f"{os.path.basename(folder)} is woven", (0, b""), (done.returncode, done.stderr))
-    return rope
-
-
-def included(source):
-    """The names of the files that a source includes."""
-    names = re.findall(r"^\$(\S+)", source, re.M)
-    return [*names, *(more for name in names for more in included(read(name)))]
-
-
-def woven_by_lines(folder, name, change=lambda text: text, own=None):
-    """Weaves a source of the example, or an own one, with the words of `lines` for its interpretive lines. Returns the path of
-    the rope."""
-    copied(folder)
-    own = own or read(name)
-    sources = {name: change(own), **{each: change(read(each)) for each in included(own)}}
-    places = None
-    for _ in range(2):
-        for each, source in sources.items():
-            with open(os.path.join(folder, each), "w") as file:
-                file.write(lines.woven(source, places))
-        done, rope = weave(folder, name)
-        judge(f"{name} is woven", (0, b""), (done.returncode, done.stderr))
-        with open(rope + ".names") as file:
-            places = lines.Places(file.read())
     return rope
 
 
@@ -207,11 +163,6 @@ def measured():
     return costs.table(costs.costs(subprocess.run(trace, capture_output=True, text=True, check=True).stdout.splitlines()))
 
 
-def read(name, mode="r"):
-    with open(os.path.join(EXAMPLE, name), mode) as file:
-        return file.read()
-
-
 def try_costs():
     """The page's table of costs is what is measured."""
     judge("the page's costs", "\n".join(measured()), read("README.md").partition("# Operations")[2].split("\n\n")[2])
@@ -252,82 +203,6 @@ def try_page():
         judge("the page's cycle", True, f"at {console.cycle}" in read("README.md"))
 
 
-def accelerated(place):
-    return [-orbit.MU * part / orbit.size(place) ** 3 for part in place]
-
-
-def integrated(place, speed, seconds, step=10.0):
-    """The state some seconds later, by Runge and Kutta's steps of fourth order."""
-    steps = max(1, round(seconds / step))
-    step = seconds / steps
-    for _ in range(steps):
-        slopes, at = [], (place, speed)
-        for part in (0.5, 0.5, 1, 0):
-            slopes.append((at[1], accelerated(at[0])))
-            at = tuple([old + part * step * slope for old, slope in zip(one, more)] for one, more in zip((place, speed), slopes[-1]))
-        place, speed = (
-            [old + step / 6 * (a + 2 * b + 2 * c + d) for old, a, b, c, d in zip(one, *(slope[n] for slope in slopes))]
-            for n, one in enumerate((place, speed)))  # fmt: skip
-    return place, speed
-
-
-# Apolune and perilune in nautical miles, seconds since perilune, degrees of inclination, seconds of the step
-ORBITS = (
-    (60, 60, 0, 0, 600), (60.2, 59.8, 2000, 90, 7000), (60, 8.3, 3300, 5, 3000), (60, 8.3, 100, 175, 6500), (170, 60, 600, 10, 1800),
-    (500, 20, 5000, 45, 4000), (1500, 30, 2000, 120, 9000), (4500, 60, 20000, 30, 20000), (9000, 60, 600, 20, 50000),
-    (9500, 20, 90000, 60, 1000), (9900, 9, 40000, 80, 70000), (200, -5, 4000, 33, 2500),
-)  # fmt: skip
-BURN = (-20.0, 3.0, 1.5)
-
-
-def try_orbit():
-    """Verb 82, the step and the burn against an integration, with the program in each half of the memory."""
-    for half, bank in (("low", 5), ("high", 25)):
-        rope = woven_by_lines(os.path.join(scratch, f"orbit{half}"), "orbit.agc", lambda source: source.replace("BANK    5\n", f"BANK    {bank}\n"))
-        with orbit.Orbit(rope, rope + ".names", program=[CONSOLE]) as console:
-            for each in ORBITS:
-                fly(console, f"{half}, {each}", *each)
-
-
-def fly(console, title, apolune, perilune, since, inclination, step):
-    place, speed = orbit.state(apolune * orbit.MILE, perilune * orbit.MILE, since, math.radians(inclination))
-    console.load(place, speed, step, BURN)
-    console.press("ENTR")
-    check_shown(title, console, place, speed)
-    console.press("+")
-    place, speed = integrated(place, speed, step)
-    off = 8 if apolune < 5000 else 25  # m
-    for what, wanted, name, scale, most in (("place", place, "RVEC", orbit.PLACE, off), ("speed", speed, "VVEC", orbit.SPEED, 0.01)):
-        found = console.vector(name, scale)
-        near(f"{title}, + : the {what}", 0, max(abs(one - other) for one, other in zip(wanted, found)), most)
-    check_shown(f"{title}, +", console, place, speed)
-    console.press("-")
-    speed = orbit.burnt(place, speed, BURN)
-    near(f"{title}, - : the speed", 0, max(abs(one - other) for one, other in zip(speed, console.vector("VVEC", orbit.SPEED))), 0.01)
-    check_shown(f"{title}, -", console, place, speed)
-
-
-def check_shown(title, console, place, speed):
-    """Checks the registers against double arithmetic: a tenth of a mile, and a second; a perilune of a circle has no time."""
-    far, low, left, period = orbit.elements(place, speed)
-    shown = console.shown()
-    near(f"{title}: apolune", min(far, 9999.9 * orbit.MILE), shown[0], 0.1 * orbit.MILE)
-    near(f"{title}: perilune", low, shown[1], 0.1 * orbit.MILE)
-    if far - low > 1000 and left < 99_000:
-        off = abs(left - shown[2]) % period
-        near(f"{title}: to perilune", 0, min(off, period - off), 1)
-
-
-def try_countdown():
-    """R3 counts the seconds."""
-    with orbit.Orbit(program=[CONSOLE]) as console:
-        console.load(*orbit.state(314840, 111120, 600, 0))
-        console.press("ENTR")
-        before = console.shown()[2]
-        console.go(round(10.5 * 256000 / 3))
-        judge("ten seconds later", before - 10, console.shown()[2])
-
-
 def try_tutorial():
     """The tutorial's programs leave the numbers that the page shows."""
     block = r"[Aa]s `(\w+\.agc)`:\n\n```\n(.*?)```\n\n    \$ \S+/run\.py \S+/(\w+\.agc) (.*?)\n(.*?)\n\n"
@@ -357,7 +232,7 @@ def main():
     if sys.argv[1:] == ["costs"]:
         print("\n".join(measured()))
         sys.exit()
-    for each in (try_programs, try_chains, try_fixed_fixed, try_costs, try_rope, try_page, try_orbit, try_countdown, try_tutorial, try_unknown):
+    for each in (try_programs, try_chains, try_fixed_fixed, try_costs, try_rope, try_page, *orbits.TRIES, try_tutorial, try_unknown):
         if len(sys.argv) == 1 or each.__name__ in sys.argv[1:]:
             attempt(each)
     finish()
