@@ -318,4 +318,36 @@ def try_view():
         judge("it goes back", view, instrument.view())
 
 
-TRIES = (try_verb_82, try_states, try_wrong_keys, try_no_orbit, try_countdown, try_plans, try_busy, try_orbit_page, try_view)
+def guides():
+    """The steps of each guide: its keys, the key PRO as P, and what it waits for."""
+    found, names = [], {name: key for key, name in orbit.KEYS.items()}
+    for line in read("orbit.rope.guide").splitlines():
+        what, _, rest = line.partition(" ")
+        if what == "guide":
+            found.append((rest, []))
+        elif what == "step":
+            found[-1][1].append(["", []])
+        elif what == "click" and rest.startswith("keys "):
+            found[-1][1][-1][0] += "".join(names.get(key, key) for key in rest.split()[1:])
+        elif what == "until" and rest != "running":
+            found[-1][1][-1][1] += [each.strip().split(" ") for each in rest.split(",")]
+    return found
+
+
+def try_guides():
+    """A machine that follows the guides shows what each step waits for, and not before its keys."""
+    judge("guides", 2, len(guides()))
+    for title, steps in guides():
+        with console() as agc:
+            agc.quiet()
+            for number, (keys, wanted) in enumerate(steps, 1):
+                shows = lambda: all(agc.panel()[name] == value for name, value in wanted)
+                check(f"{title}, step {number}: it is not there yet", not wanted or not shows())
+                agc.show(keys)
+                for _ in range(400):
+                    if not shows():
+                        agc.go(round(SECOND / 2))
+                check(f"{title}, step {number}: {wanted}, found {agc.panel()}", shows())
+
+
+TRIES = (try_verb_82, try_states, try_wrong_keys, try_no_orbit, try_countdown, try_plans, try_busy, try_orbit_page, try_guides, try_view)

@@ -214,6 +214,37 @@ def try_tutorial():
         judge(name, [each.strip() for each in shown.splitlines()], run.lines(rope, rope + ".names", wanted.split(), program=[CONSOLE]))
 
 
+def law():
+    """The time to go and the law's accelerations forward and up after a second of the landing, in double arithmetic."""
+    speeds = 150 + 10 * 0.0585, -45 + 20 * 0.0585 - 1.62
+    places = -7500 + (150 + speeds[0]) / 2, 2300 + (-45 + speeds[1]) / 2
+    time = 3 * -places[0] / (speeds[0] + 4)
+    return time, *(6 / time * (2 * way / time - speed) for way, speed in ((-places[0], speeds[0] + 2), (30 - places[1], speeds[1] - 2)))
+
+
+def try_law():
+    """The landing's law in both languages: its results, words and cycles are those of the page."""
+    rope = woven_by_lines(os.path.join(scratch, "law"), "law.agc")
+    with open(rope + ".names") as file:
+        place = {name: int(place[3:], 8) for place, name in map(str.split, file) if place.startswith("04,")}
+    with Console(rope, names=rope + ".names", program=[CONSOLE]) as console:
+        cycles = {}
+        for name in ("BEGUN", "STEPPED", "LAWED", "BASIC", "BSTEPPED", "STAY"):
+            check(f"law.agc comes to {name}", console.until(name, 20_000).came)
+            cycles[name] = console.cycle
+        found = [sum(whole(word) * 16.0 / 16384 ** n for n, word in enumerate(console.cells(name, 2), 1)) for name in ("ACCEL", "ACCEL+4", "BACCEL", "BACCEL+4")]
+        near("the time to go", law()[0], 256 * sum(whole(word) / 16384 ** n for n, word in enumerate(console.cells("TGO", 2), 1)), 1e-5)
+    for n, (wanted, most) in enumerate(((law()[1], 1e-7), (law()[2], 1e-7), (law()[1], 0.0012), (law()[2], 0.0012))):
+        near(f"the law's acceleration {n}", wanted, found[n], most)
+    words = lambda *parts: sum(place[end] - place[begin] for begin, end in parts)
+    rows = re.findall(r"^\| (?:step|law with time to go), (?:words|cycles) \| (\d+) \| (\d+) \|", read("README.md"), re.M)
+    measured = [
+        (words(("BEGUN", "STEPPED")), words(("BASIC", "BSTEPPED"), ("STEP", "LAW"))), (cycles["STEPPED"] - cycles["BEGUN"], cycles["BSTEPPED"] - cycles["BASIC"]),
+        (words(("STEPPED", "LAWED")), words(("BSTEPPED", "STAY"), ("LAW", "LAWEND"))), (cycles["LAWED"] - cycles["STEPPED"], cycles["STAY"] - cycles["BSTEPPED"]),
+    ]  # fmt: skip
+    judge("the page's words and cycles", [tuple(map(str, row)) for row in measured], rows)
+
+
 def try_unknown():
     """A code without an operation, and a word without a meaning, stop the machine."""
     for word, trap in ((0o77777 - 0o167, "BADCODE"), (0o77777 - 0o166, "BADCODE"), (0, "BADWORD"), (0o77777, "BADWORD")):
@@ -232,7 +263,7 @@ def main():
     if sys.argv[1:] == ["costs"]:
         print("\n".join(measured()))
         sys.exit()
-    for each in (try_programs, try_chains, try_fixed_fixed, try_costs, try_rope, try_page, *orbits.TRIES, try_tutorial, try_unknown):
+    for each in (try_programs, try_chains, try_fixed_fixed, try_costs, try_rope, try_page, *orbits.TRIES, try_tutorial, try_law, try_unknown):
         if len(sys.argv) == 1 or each.__name__ in sys.argv[1:]:
             attempt(each)
     finish()
