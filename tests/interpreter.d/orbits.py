@@ -318,6 +318,20 @@ def try_view():
         judge("it goes back", view, instrument.view())
 
 
+def try_exercise():
+    """The page's exercise: its lines and its script of keys show the period."""
+    page = read("ORBIT.md").partition("## Exercise")[2]
+    added, keys = re.findall(r"^\n((?:        .+\n)+)", page, re.M)
+    judge("where the lines go", 1, read("display.agc").count("        OCT     0\n"))
+    change = lambda source: source.replace("        OCT     0\n", added + "        OCT     0\n")
+    script = Script(woven_by_lines(os.path.join(scratch, "exercise"), "orbit.agc", change))
+    script.lines = [each.strip() for each in keys.splitlines()]
+    limit = re.search(r"period --limit (\d+)", page)
+    panel = script.panel(int(limit[1]) - script.cycle)
+    judge("the period", re.findall(r"\+\d{5}", page), [panel[name] for name in ("R1", "R2", "R3")])
+    near("the period in double arithmetic", orbit.elements((1838090.0, 0, 0), (0, 1633.2, 0))[3], 3600 + 57 * 60 + int(panel["R3"]) / 100, 0.01)
+
+
 def guides():
     """The steps of each guide: its keys, the key PRO as P, and what it waits for."""
     found, names = [], {name: key for key, name in orbit.KEYS.items()}
@@ -350,4 +364,4 @@ def try_guides():
                 check(f"{title}, step {number}: {wanted}, found {agc.panel()}", shows())
 
 
-TRIES = (try_verb_82, try_states, try_wrong_keys, try_no_orbit, try_countdown, try_plans, try_busy, try_orbit_page, try_guides, try_view)
+TRIES = (try_verb_82, try_states, try_wrong_keys, try_no_orbit, try_countdown, try_plans, try_busy, try_orbit_page, try_exercise, try_guides, try_view)
