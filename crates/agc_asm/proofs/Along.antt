@@ -9,7 +9,7 @@ use Rattle.agc_store.specs.Memory.{fixed_at}
 use Rattle.agc_listing.specs.List.{starts_run, is_extracode_at}
 use Rattle.agc_listing.specs.Order.{next_is_extracode}
 use Rattle.agc_listing.proofs.RopeLines.{extracode_next}
-use Rattle.agc_asm.specs.LocationCounter.{after_cells, after_range, after_words, in_bank, location_at, moved_to, resumed, room_at, stretch_end}
+use Rattle.agc_asm.specs.LocationCounter.{after_cells, after_range, after_words, bank_end, in_bank, location_at, moved_to, resumed, room_at, stretch_end}
 use Rattle.agc_asm.specs.OrderLines.{place_of}
 use Rattle.agc_asm.specs.declared.location_counter.At.{At}
 use Rattle.agc_asm.specs.declared.location_counter.At.TheVariants as at
@@ -24,7 +24,7 @@ use Rattle.agc_interpretive.specs.declared.pending.Pending.{Pending}
 
 -- at the place of the next line a listing reads an extracode if one is expected
 abbrev pub Agrees : List Number → List ℕ → Bool → At → Type 0
-Agrees words left leads (at.Bank bank) = get_or left bank 0 < 0o2000 → is_extracode_at words (0o2000 * bank + get_or left bank 0) ≡ leads
+Agrees words left leads (at.Bank bank) = get_or left bank 0 < bank_end bank → is_extracode_at words (0o2000 * bank + get_or left bank 0) ≡ leads
 Agrees words left leads (at.Cell cell) = Unit {0}
 
 abbrev pub IsBank : At → Type 0
@@ -38,15 +38,15 @@ pub record Sound (words : List Number) (since : ℕ) (counter : LocationCounter)
 
 -- a line of words has a place, and room there
 pub record Room (bank left count place : ℕ) : Type 0 where
-  pub fits : left + count ≤ 0o2000
+  pub fits : left + count ≤ bank_end bank
   pub here : place ≡ 0o2000 * bank + left
 
-room_by : (bank left count place : ℕ) (room : Bool) → nat_le (left + count) 0o2000 ≡ room → (if room then Ok (0o2000 * bank + left) else Err fault.Full) ≡ Ok place → Room bank left count place
+room_by : (bank left count place : ℕ) (room : Bool) → nat_le (left + count) (bank_end bank) ≡ room → (if room then Ok (0o2000 * bank + left) else Err fault.Full) ≡ Ok place → Room bank left count place
 room_by bank left count place true e is = record { fits = grind (arith, nat_tests); here = cc }
 room_by bank left count place false e is = absurd cc
 
-has_room : (bank left count place : ℕ) → (if nat_le (left + count) 0o2000 then Ok (0o2000 * bank + left) else Err fault.Full) ≡ Ok place → Room bank left count place
-has_room bank left count place is = room_by bank left count place (nat_le (left + count) 0o2000) refl is
+has_room : (bank left count place : ℕ) → (if nat_le (left + count) (bank_end bank) then Ok (0o2000 * bank + left) else Err fault.Full) ≡ Ok place → Room bank left count place
+has_room bank left count place is = room_by bank left count place (nat_le (left + count) (bank_end bank)) refl is
 
 -- the place after a word
 leads_same : (leads : Bool) (a b : Number) → pattern_of 15 a ≡ pattern_of 15 b → next_is_extracode leads a ≡ next_is_extracode leads b
@@ -54,21 +54,34 @@ unfolding next_is_extracode
 leads_same true a b same = rw same refl
 leads_same false a b same = rw same refl
 
-goes_on : (place : ℕ) → (place % 0o2000 == 0) ≡ false → starts_run place ≡ false
+inside_two : (left : ℕ) (first : Bool) → left + 1 < 0o4000 → ((0o4000 + left + 1) % 0o2000 == 0) ≡ first → (first && not (0o4000 + left + 1 == 0o6000)) ≡ false
+inside_two left false h e = refl
+inside_two left true h e =
+    let here : left + 1 ≡ 0o2000 = grind (arith, nat_tests) in
+    let same : 0o4000 + left + 1 ≡ 0o6000 = omega arith in
+    rw same refl
+
+inside_one : (bank left : ℕ) → left + 1 < 0o2000 → ((0o2000 * bank + left + 1) % 0o2000 == 0) ≡ false
+inside_one bank left h = grind (arith, nat_tests)
+
+inside_by : (bank left : ℕ) (two : Bool) → (bank == 2) ≡ two → left + 1 < (if two then 0o4000 else 0o2000) → starts_run (0o2000 * bank + left + 1) ≡ false
 unfolding starts_run
-goes_on place h = rw h refl
+inside_by bank left true e h =
+    let is : bank ≡ 2 = grind (arith, nat_tests) in
+    rw is (inside_two left ((0o4000 + left + 1) % 0o2000 == 0) h refl)
+inside_by bank left false e h = rw (inside_one bank left h) refl
 
-inside_bank : (bank left : ℕ) → left + 1 < 0o2000 → ((0o2000 * bank + left + 1) % 0o2000 == 0) ≡ false
-inside_bank bank left h = grind (arith, nat_tests)
+goes_on : (bank left : ℕ) → left + 1 < bank_end bank → starts_run (0o2000 * bank + left + 1) ≡ false
+goes_on bank left h = inside_by bank left (bank == 2) refl h
 
-next_read : (words : List Number) (bank left : ℕ) (leads : Bool) (word : Number) → left + 1 < 0o2000 → is_extracode_at words (0o2000 * bank + left) ≡ leads
+next_read : (words : List Number) (bank left : ℕ) (leads : Bool) (word : Number) → left + 1 < bank_end bank → is_extracode_at words (0o2000 * bank + left) ≡ leads
     → pattern_of 15 (fixed_at (0o2000 * bank + left) words) ≡ pattern_of 15 word → is_extracode_at words (0o2000 * bank + (left + 1)) ≡ next_is_extracode leads word
 next_read words bank left leads word inside is same =
     let place = 0o2000 * bank + left in
     let here = fixed_at place words in
     let led = next_is_extracode leads here in
     let next : led && not (starts_run (place + 1)) ≡ is_extracode_at words (place + 1) = extracode_next words place leads led here (sym is) refl refl in
-    let on : starts_run (place + 1) ≡ false = goes_on (place + 1) (inside_bank bank left inside) in
+    let on : starts_run (place + 1) ≡ false = goes_on bank left inside in
     let plain : is_extracode_at words (place + 1) ≡ led = sym (rw on at next) ∙ and-true led in
     let sum : 0o2000 * bank + (left + 1) ≡ place + 1 = omega arith in
     ap (is_extracode_at words) sum ∙ plain ∙ leads_same leads here word same
@@ -82,13 +95,18 @@ read_here words since left used due (at.Bank bank) leads count place some h is n
     rw r.here (h.along none (omega (arith, r.fits)))
 
 -- and that place is in the rope
+end_in_rope : (bank : ℕ) (two : Bool) → (bank == 2) ≡ two → bank < 36 → 0o2000 * bank + (if two then 0o4000 else 0o2000) ≤ 0o110000
+end_in_rope bank true e h = grind (arith, nat_tests)
+end_in_rope bank false e h = omega arith
+
 pub place_inside : (words : List Number) (since : ℕ) (left used : List ℕ) (due : Pending) (here : At) (leads : Bool) (count place : ℕ) → 0 < count → Sound words since (record { left = left; used = used; at = here; due = due }) leads
     → room_at (record { left = left; used = used; at = here; due = due }) here count ≡ Ok place → place + count ≤ 0o110000
 place_inside words since left used due (at.Cell cell) leads count place some h is = absurd cc
 place_inside words since left used due (at.Bank bank) leads count place some h is =
     let r = has_room bank (get_or left bank 0) count place is in
     let below : bank < 36 = h.bank in
-    omega (arith, r.fits, r.here)
+    let whole : 0o2000 * bank + bank_end bank ≤ 0o110000 = end_in_rope bank (bank == 2) refl below in
+    omega (arith, r.fits, r.here, whole)
 
 -- after a line of one word
 pub after_one : (words : List Number) (since : ℕ) (left used : List ℕ) (due : Pending) (here : At) (leads : Bool) (place : ℕ) (word : Number) → Sound words since (record { left = left; used = used; at = here; due = due }) leads
@@ -104,7 +122,7 @@ after_one words since left used due (at.Bank bank) leads place word h is same =
       banks = length-set left bank (l + 1) ∙ h.banks;
       bank = h.bank;
       along = λ none inside.
-          let small : l + 1 < 0o2000 = rw set_there at inside in
+          let small : l + 1 < bank_end bank = rw set_there at inside in
           rw set_there (next_read words bank l leads word small (h.along none (omega arith)) (rw r.here at same));
     }
 

@@ -179,6 +179,7 @@ directive_fits naming here banks directive.Dnchan words = downlink_fits 0o34000 
 directive_fits naming here banks directive.IsMinus words = tt
 directive_fits naming here banks directive.IsEcadr words = tt
 directive_fits naming here banks directive.Subro words = tt
+directive_fits naming here banks directive.Check words = tt
 
 lowered_fits : (less : ℕ) (word : Result Number SourceFault) → IfOk (lowered less word) Fits
 lowered_fits less (Ok word) = pattern_fits ((pattern_of 15 word + (2 ^ 17 - less)) % 2 ^ 15)
@@ -281,6 +282,7 @@ pair_word_fits naming here banks directive.Dnchan words = tt
 pair_word_fits naming here banks directive.IsMinus words = tt
 pair_word_fits naming here banks directive.IsEcadr words = tt
 pair_word_fits naming here banks directive.Subro words = tt
+pair_word_fits naming here banks directive.Check words = tt
 
 pair_by_fits : (naming : Naming) (here : ℕ) (banks : Banks) (d : Option Directive) (words : List (List ℕ)) → IfOk (pair_by naming here banks d words) BothFit
 pair_by_fits naming here banks (Some d) words = pair_word_fits naming here banks d words

@@ -13,7 +13,7 @@ use Rattle.agc_listing.specs.declared.location.Location.TheVariants as location
 use Rattle.agc_asm.specs.declared.mnemonic.Directive.{Directive}
 use Rattle.agc_asm.specs.declared.mnemonic.Directive.TheVariants as directive
 use Rattle.agc_listing.specs.declared.number.Signed.{Signed}
-use Rattle.agc_asm.specs.LineKind.{as_name, bank_in, bank_within, block_in, block_within, cells_by, cells_in, cut_range, is_dash, is_minus, moves_to, range_of, kind_by, kind_of, stands_apart, stands_beside, stands_for, stands_for_cell}
+use Rattle.agc_asm.specs.LineKind.{as_name, bank_in, bank_within, block_in, block_within, cells_by, cells_in, cut_range, is_dash, is_minus, moves_to, range_of, checks, kind_by, kind_of, stands_apart, stands_beside, stands_for, stands_for_cell}
 use Rattle.agc_asm.specs.Name.{Naming}
 use Rattle.agc_asm.specs.Operand.{located, location_by, location_in, location_of, value_apart}
 use Rattle.agc_asm.specs.declared.fault.SourceFault.{SourceFault}
@@ -70,6 +70,10 @@ stands_inside naming (word ∷ by ∷ words) = name_inside (location_in naming (
 apart_inside : (place : Result Location SourceFault) → IfOk (stands_apart place) GoesIntoRope
 apart_inside (Ok place) = tt
 apart_inside (Err why) = tt
+
+checks_inside : (place : Result Location SourceFault) → IfOk (checks place) GoesIntoRope
+checks_inside (Ok place) = tt
+checks_inside (Err why) = tt
 
 cell_inside : (place : Result Location SourceFault) → IfOk (stands_for_cell place) GoesIntoRope
 cell_inside (Ok (location.Erasable cell)) = tt
@@ -183,6 +187,7 @@ shape_by_inside naming (Some directive.Dnchan) word words = tt
 shape_by_inside naming (Some directive.IsMinus) word words = apart_inside (location_in naming words)
 shape_by_inside naming (Some directive.IsEcadr) word words = cell_inside (location_in naming words)
 shape_by_inside naming (Some directive.Subro) word words = tt
+shape_by_inside naming (Some directive.Check) word words = checks_inside (location_in naming words)
 
 shape_inside : (naming : Naming) (words : List (List ℕ)) → IfOk (kind_of naming words) GoesIntoRope
 shape_inside naming [] = tt

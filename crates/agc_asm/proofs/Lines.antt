@@ -1,5 +1,5 @@
 -- Where the lines of a rope's source are read, in both passes.
-use Rattle.std.specs.Prelude.{◌≡◌, ℕ, ◌+◌, ◌-◌, ◌/◌, ◌%◌, ◌<◌, ◌==◌, Bool, true, false, not, ◌&&◌, List, [], ◌∷◌, ◌++◌, codes, length, get_or, Option, Some, None, Ok, Err}
+use Rattle.std.specs.Prelude.{◌≡◌, ℕ, ◌+◌, ◌-◌, ◌*◌, ◌/◌, ◌%◌, ◌<◌, ◌==◌, nat_le, Bool, true, false, not, ◌&&◌, List, [], ◌∷◌, ◌++◌, codes, length, get_or, Option, Some, None, Ok, Err, if◌then◌else◌}
 use Rattle.std.specs.List.{list_all, list_any}
 use Rattle.std.proofs.Common.{refl, ap, ◌∙◌, arith}
 use Rattle.std.proofs.lemmas.Bool.{and_parts, and_right, both_ways}
@@ -9,7 +9,7 @@ use Rattle.agc_word.specs.Number.{Number}
 use Rattle.agc_listing.specs.Laws.{has_line}
 use Rattle.agc_listing.specs.Order.{next_is_extracode}
 use Rattle.agc_listing.specs.Line.{is_no_text}
-use Rattle.agc_asm.specs.LocationCounter.{after_words, left_in, moved_to, room_at}
+use Rattle.agc_asm.specs.LocationCounter.{after_words, bank_end, left_in, moved_to, room_at}
 use Rattle.agc_asm.specs.Disassemble.{follows_word}
 use Rattle.agc_listing.proofs.Prints.{all_text, prints}
 use Rattle.agc_listing.specs.Weave.{is_named}
@@ -33,6 +33,7 @@ use Rattle.agc_asm.specs.Body.{line_label, body_in, spelled, plain_line, has_non
 use Rattle.agc_asm.specs.Encode.{banks_after, is_banked}
 use Rattle.agc_asm.proofs.Passes.{next_due, next_named, next_woven}
 use Rattle.agc_asm.specs.declared.location_counter.At.TheVariants as at
+use Rattle.agc_asm.specs.declared.fault.SourceFault.TheVariants as fault
 use Rattle.agc_asm.specs.declared.location_counter.LocationCounter.{LocationCounter}
 use Rattle.agc_listing.specs.declared.location.Location.TheVariants as location
 
@@ -48,8 +49,16 @@ pub record Stands (words : List Number) (place : ℕ) (counter : LocationCounter
   pub due : counter.due ≡ nothing_due
   pub here : follows_word words place ≡ true → IsHere place counter
 
+room_by : (left bank : ℕ) (two : Bool) → left < 0o2000 → nat_le (left + 1) (if two then 0o4000 else 0o2000) ≡ true
+room_by left bank true h = grind (arith, nat_tests)
+room_by left bank false h = grind (arith, nat_tests)
+
+room_in_bank : (place : ℕ) (room : Bool) → nat_le (place % 0o2000 + 1) (bank_end (place / 0o2000)) ≡ room → (if room then Ok (0o2000 * (place / 0o2000) + place % 0o2000) else Err fault.Full) ≡ Ok place
+room_in_bank place true e = let same : 0o2000 * (place / 0o2000) + place % 0o2000 ≡ place = omega arith in rw same refl
+room_in_bank place false e = absurd (both_ways _ e (room_by (place % 0o2000) (place / 0o2000) (place / 0o2000 == 2) (omega arith)))
+
 pub has_room : (place : ℕ) (counter : LocationCounter) → IsHere place counter → room_at counter (at.Bank (place / 0o2000)) 1 ≡ Ok place
-has_room place counter h = rw (h.left) (grind (arith, nat_tests))
+has_room place counter h = rw (h.left) (room_in_bank place (nat_le (place % 0o2000 + 1) (bank_end (place / 0o2000))) refl)
 
 words_here : (place : ℕ) (counter : LocationCounter) → IsHere place counter → after_line_words counter counter.at 1 ≡ Ok (after_words counter counter.at 1)
 words_here place counter h = rw (h.bank, has_room place counter h) refl

@@ -221,6 +221,9 @@ shape_done words naming since state line (kind.StandsBeside by) p goes =
 shape_done words naming since state line (kind.StandsApart place) p goes =
     next_done words naming since state line (kind.StandsApart place) (Ok state.counter) tt p
     (rw (p.basic, p.unlisted, p.takes) (after_name_line words since state.counter state.leads p.sound))
+shape_done words naming since state line (kind.Checks place) p goes =
+    next_done words naming since state line (kind.Checks place) (Ok state.counter) tt p
+    (rw (p.basic, p.unlisted, p.takes) (after_name_line words since state.counter state.leads p.sound))
 shape_done words naming since state line kind.StandsHere p goes =
     next_done words naming since state line kind.StandsHere (Ok state.counter) tt p
     (rw (p.basic, p.unlisted, p.takes) (after_name_line words since state.counter state.leads p.sound))

@@ -1,5 +1,5 @@
 -- The names of a source are written with their locations, and the symbol file reads back as these names.
-use Rattle.std.specs.Prelude.{◌≡◌, ℕ, Bool, true, false, not, List, [], ◌∷◌, ◌++◌, Option, Some, None, Result, Ok, Err, IfSome, is_some, if◌then◌else◌}
+use Rattle.std.specs.Prelude.{◌≡◌, ℕ, Bool, true, false, not, List, [], ◌∷◌, ◌++◌, Option, Some, None, Result, Ok, Err, IfSome, if◌then◌else◌}
 use Rattle.std.specs.List.{list_any}
 use Rattle.std.proofs.Common.{refl, ap, sym, ◌∙◌, subst}
 use Rattle.std.proofs.lemmas.Grind.{flat_map-append}
@@ -14,7 +14,7 @@ use Rattle.agc_symbols.proofs.NamesRead.{names_read}
 use Rattle.agc_asm.specs.LocationCounter.{due_there, first_counter}
 use Rattle.agc_asm.specs.NameLines.{label_named, labels_from, labels_in, name_lines_in}
 use Rattle.agc_asm.specs.LineKind.{counter_after, kind_of}
-use Rattle.agc_asm.specs.Source.{first_names, label_place, labelled, define_label, listed_labelled, naming_after, shape_labelled, labelled_as, with_due}
+use Rattle.agc_asm.specs.Source.{first_names, labelled, define_label, listed_labelled, naming_after, place_of_name, shape_labelled, labelled_as, with_due}
 use Rattle.agc_asm.specs.declared.location_counter.LocationCounter.{LocationCounter}
 use Rattle.agc_asm.specs.declared.pass1.Labelled.{Labelled}
 use Rattle.agc_asm.specs.declared.line_kind.LineKind.{LineKind}
@@ -50,7 +50,7 @@ none_faulty (Ok next) why = refl
 none_faulty (Err first) why = refl
 
 name_by : (named : Bool) (naming : Naming) (counter : LocationCounter) (s : LineKind) (name : List ℕ) (next : Labelled) (place : Location)
-    → labelled (counter_after counter s) (if not named then Err fault.BadName else (if is_some (naming.given name) then Err fault.NameTwice else label_place counter s)) ≡ Ok next
+    → labelled (counter_after counter s) (if not named then Err fault.BadName else place_of_name naming counter s name) ≡ Ok next
     → next.place ≡ Some place → named ≡ true
 name_by true naming counter s name next place e p = refl
 name_by false naming counter s name next place e p = absurd (no_place (labelled (counter_after counter s) (Err fault.BadName)) next place (none_faulty (counter_after counter s) fault.BadName) e p)

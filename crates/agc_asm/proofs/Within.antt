@@ -1,8 +1,8 @@
 -- A name on a line for which there is room has a location in memory.
-use Rattle.std.specs.Prelude.{◌≡◌, ℕ, ◌+◌, ◌*◌, ◌<◌, ◌≤◌, nat_le, Bool, true, false, Ok, Err, IsOk, if◌then◌else◌, ◌&&◌}
+use Rattle.std.specs.Prelude.{◌≡◌, ℕ, ◌+◌, ◌*◌, ◌<◌, ◌≤◌, nat_le, ◌==◌, Bool, true, false, Ok, Err, IsOk, if◌then◌else◌, ◌&&◌}
 use Rattle.std.proofs.Common.{refl, arith}
 use Rattle.std.proofs.lemmas.Bool.Decides.{nat_tests}
-use Rattle.agc_asm.specs.LocationCounter.{IsAt, after_cells, left_in, location_at, stretch_end}
+use Rattle.agc_asm.specs.LocationCounter.{IsAt, after_cells, bank_end, left_in, location_at, stretch_end}
 use Rattle.agc_asm.specs.LineKind.{after_line_words, after_room}
 use Rattle.agc_interpretive.specs.Pending.{nothing_due}
 use Rattle.agc_asm.specs.declared.location_counter.At.{At}
@@ -11,9 +11,13 @@ use Rattle.agc_asm.specs.declared.location_counter.LocationCounter.{LocationCoun
 use Rattle.agc_listing.specs.Location.{IsWithin}
 use Rattle.agc_asm.specs.declared.fault.SourceFault.TheVariants as fault
 
-in_bank : (room : Bool) (counter : LocationCounter) (bank left count : ℕ) → nat_le (left + count) 0o2000 ≡ room → bank < 36 → 0 < count
+in_rope : (bank left count : ℕ) (two : Bool) → (bank == 2) ≡ two → nat_le (left + count) (if two then 0o4000 else 0o2000) ≡ true → bank < 36 → 0 < count → 0o2000 * bank + left < 0o110000
+in_rope bank left count true is e h some = grind (arith, nat_tests)
+in_rope bank left count false is e h some = let room : left + count ≤ 0o2000 = grind (arith, nat_tests) in omega arith
+
+in_bank : (room : Bool) (counter : LocationCounter) (bank left count : ℕ) → nat_le (left + count) (bank_end bank) ≡ room → bank < 36 → 0 < count
     → IsOk (after_room counter count (if room then Ok (0o2000 * bank + left) else Err fault.Full)) → 0o2000 * bank + left < 0o110000
-in_bank true counter bank left count e h some ok = let room : left + count ≤ 0o2000 = grind (arith, nat_tests) in omega arith
+in_bank true counter bank left count e h some ok = in_rope bank left count (bank == 2) refl e h some
 in_bank false counter bank left count e h some ok = absurd cc
 
 in_erasable : (room same : Bool) (counter next : LocationCounter) (cell count : ℕ) → nat_le (cell + count) 0o4000 ≡ room → 0 < count
@@ -30,5 +34,5 @@ cells_within counter (at.Bank bank) count some ok = absurd cc
 -- when words have room
 pub room_within : (counter : LocationCounter) (here : At) (count : ℕ) → IsAt here → 0 < count → IsOk (after_line_words counter here count) → IsWithin (location_at counter here)
 room_within counter (at.Bank bank) count h some ok =
-    in_bank (nat_le (left_in counter bank + count) 0o2000) counter bank (left_in counter bank) count refl h some ok
+    in_bank (nat_le (left_in counter bank + count) (bank_end bank)) counter bank (left_in counter bank) count refl h some ok
 room_within counter (at.Cell cell) count h some ok = cells_within counter (at.Cell cell) count some ok

@@ -174,6 +174,7 @@ writes_nothing (Some directive.BankSum) = true
 writes_nothing (Some directive.IsMinus) = true
 writes_nothing (Some directive.IsEcadr) = true
 writes_nothing (Some directive.Subro) = true
+writes_nothing (Some directive.Check) = true
 writes_nothing d = false
 
 -- a minus before an operation that writes words is no part of its name

@@ -20,7 +20,8 @@ abbrev pub fault_text : SourceFault → List ℕ
 fault_text (fault.Listed why) = listed_text why
 fault_text fault.BadName = codes "a name is 1 to 8 characters, without a comma and not only digits and signs"
 fault_text fault.NameTwice = codes "an earlier line has this name"
-fault_text fault.MisplacedName = codes "=, EQUALS, =MINUS and =ECADR need a name in the first column; BANK and BLOCK take none"
+fault_text fault.MisplacedName = codes "=, EQUALS, =MINUS, =ECADR and CHECK= need a name in the first column; BANK and BLOCK take none"
+fault_text fault.CheckFailed = codes "CHECK= fails: no other line gives this name that place"
 fault_text fault.UnknownOrder = codes "no order or directive has this name (they come after the first column)"
 fault_text fault.Include = codes "other files are not included: put their lines into this file"
 fault_text (fault.Interpretive why) = interpretive_text why

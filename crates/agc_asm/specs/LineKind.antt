@@ -38,6 +38,7 @@ IsKind (kind.StandsFor place) = IsWithin place
 IsKind kind.StandsHere = Unit {0}
 IsKind (kind.StandsBeside by) = by.magnitude < 100000
 IsKind (kind.StandsApart place) = IsWithin place
+IsKind (kind.Checks place) = IsWithin place
 IsKind kind.Ebank = Unit {0}
 IsKind kind.Sbank = Unit {0}
 IsKind kind.Nothing = Unit {0}
@@ -65,6 +66,11 @@ stands_for naming (word ∷ by ∷ words) = as_name (location_in naming (word �
 abbrev pub stands_apart : Result Location SourceFault → Result LineKind SourceFault
 stands_apart (Ok place) = Ok (kind.StandsApart place)
 stands_apart (Err why) = Err why
+
+-- `CHECK=`: the location that another line is to give the name
+abbrev pub checks : Result Location SourceFault → Result LineKind SourceFault
+checks (Ok place) = Ok (kind.Checks place)
+checks (Err why) = Err why
 
 -- `=ECADR`: a cell
 abbrev pub stands_for_cell : Result Location SourceFault → Result LineKind SourceFault
@@ -144,6 +150,7 @@ directive_kind naming directive.BankSum words = Ok kind.Nothing
 directive_kind naming directive.Subro words = Ok kind.Nothing
 directive_kind naming directive.PairFcadr words = Ok kind.Pair
 directive_kind naming directive.IsMinus words = stands_apart (location_in naming words)
+directive_kind naming directive.Check words = checks (location_in naming words)
 directive_kind naming directive.IsEcadr words = stands_for_cell (location_in naming words)
 directive_kind naming d words = Ok kind.Word
 

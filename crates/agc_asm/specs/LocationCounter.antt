@@ -1,5 +1,5 @@
 -- The location counter: where the next line of a source goes.
-use Rattle.std.specs.Prelude.{ℕ, ◌+◌, ◌*◌, ◌/◌, ◌%◌, ◌^◌, ◌<◌, ◌≤◌, nat_le, get_or, set, replicate, nat_lt, ◌&&◌}
+use Rattle.std.specs.Prelude.{ℕ, List, ◌+◌, ◌-◌, ◌*◌, ◌/◌, ◌%◌, ◌^◌, ◌<◌, ◌≤◌, ◌==◌, nat_le, get_or, set, replicate, nat_lt, ◌&&◌}
 use Rattle.std.specs.Prelude.{Result, Ok, Err, if◌then◌else◌}
 use Rattle.agc_interpretive.specs.Pending.{nothing_due}
 use Rattle.agc_interpretive.specs.declared.pending.Pending.{Pending}
@@ -51,20 +51,32 @@ abbrev pub location_at : LocationCounter → At → Location
 location_at counter (at.Bank bank) = location.Fixed (fixed_bank_size * bank + left_in counter bank)
 location_at counter (at.Cell cell) = location.Erasable cell
 
+-- How far the words of a bank run: from bank 02 they go on into bank 03, from any other bank not.
+abbrev pub bank_end : ℕ → ℕ
+bank_end bank = if bank == 2 then 0o4000 else fixed_bank_size
+
 -- the place of the first of the next `count` words
 abbrev pub room_at : LocationCounter → At → ℕ → Result ℕ SourceFault
 room_at counter (at.Bank bank) count =
-    if nat_le (left_in counter bank + count) fixed_bank_size
+    if nat_le (left_in counter bank + count) (bank_end bank)
     then Ok (fixed_bank_size * bank + left_in counter bank)
     else Err fault.Full
 room_at counter (at.Cell cell) count = Err fault.WrongMemory
+
+-- the offsets behind the highest words, after words up to an offset of a bank
+abbrev pub used_up_to : List ℕ → ℕ → ℕ → List ℕ
+used_up_to used bank end =
+    let here = set used bank (nat_max (get_or used bank 0) end) in
+    if bank == 2 && nat_lt fixed_bank_size end
+    then set here 3 (nat_max (get_or used 3 0) (end - fixed_bank_size))
+    else here
 
 -- After `count` words. A move takes what is due away.
 abbrev pub after_words : LocationCounter → At → ℕ → LocationCounter
 after_words counter (at.Bank bank) count =
     record counter {
       left = set counter.left bank (left_in counter bank + count);
-      used = set counter.used bank (nat_max (used_in counter bank) (left_in counter bank + count));
+      used = used_up_to counter.used bank (left_in counter bank + count);
       due = nothing_due;
     }
 after_words counter (at.Cell cell) count = counter

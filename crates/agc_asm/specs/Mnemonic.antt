@@ -59,6 +59,7 @@ directive_name directive.Dnchan = codes "DNCHAN"
 directive_name directive.IsMinus = codes "=MINUS"
 directive_name directive.IsEcadr = codes "=ECADR"
 directive_name directive.Subro = codes "SUBRO"
+directive_name directive.Check = codes "CHECK="
 
 unfoldable pub all_directives : List Directive
 all_directives =
@@ -68,7 +69,7 @@ all_directives =
     directive.Cadr ∷ directive.Fcadr ∷ directive.Ecadr ∷ directive.Bbcon ∷ directive.PairCadr ∷
     directive.VerbNoun ∷ directive.MajorMode ∷ directive.Is ∷ directive.Equals ∷ directive.Erase ∷
     directive.Ebank ∷ directive.Sbank ∷ directive.Count ∷ directive.CountStarred ∷
-    directive.Memory ∷ directive.BankSum ∷ directive.PairFcadr ∷ directive.NounVerb ∷ directive.BbconStarred ∷ directive.Dnadr1 ∷ directive.Dnadr2 ∷ directive.Dnadr3 ∷ directive.Dnadr4 ∷ directive.Dnadr5 ∷ directive.Dnadr6 ∷ directive.Dnptr ∷ directive.Dnchan ∷ directive.IsMinus ∷ directive.IsEcadr ∷ directive.Subro ∷ []
+    directive.Memory ∷ directive.BankSum ∷ directive.PairFcadr ∷ directive.NounVerb ∷ directive.BbconStarred ∷ directive.Dnadr1 ∷ directive.Dnadr2 ∷ directive.Dnadr3 ∷ directive.Dnadr4 ∷ directive.Dnadr5 ∷ directive.Dnadr6 ∷ directive.Dnptr ∷ directive.Dnchan ∷ directive.IsMinus ∷ directive.IsEcadr ∷ directive.Subro ∷ directive.Check ∷ []
 
 unfoldable pub directive_named : List ℕ → Option Directive
 directive_named name = find (λ d. bytes_eq (directive_name d) name) all_directives

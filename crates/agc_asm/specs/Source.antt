@@ -23,7 +23,7 @@ use Rattle.agc_asm.specs.Interpretive.{due_behind, role_of, spoken_meaning, spok
 use Rattle.agc_asm.specs.LocationCounter.{IsAt, after_cells, after_words, due_there, first_counter, location_at, room_at}
 use Rattle.agc_asm.specs.Encode.{banks_after, cell_in, is_banked, encode_pair, place_in, superbank, encode_word, writes_order}
 use Rattle.agc_asm.specs.Channels.{channels_from}
-use Rattle.agc_asm.specs.Name.{Naming, guessing, no_name, with_name}
+use Rattle.agc_asm.specs.Name.{Naming, guessing, known, no_name, with_name}
 use Rattle.agc_asm.specs.Operand.{location_apart, location_beside, location_in}
 use Rattle.agc_asm.specs.LineKind.{counter_after, kind_of}
 use Rattle.agc_listing.specs.Text.{after_first, are_listed, is_name, parsed_by}
@@ -77,6 +77,7 @@ label_place counter (kind.Moves place) = Ok (Some place)
 label_place counter kind.Ebank = here_place counter counter.at
 label_place counter kind.Sbank = here_place counter counter.at
 label_place counter kind.Nothing = Ok None
+label_place counter (kind.Checks place) = Ok None
 label_place counter s = Err fault.MisplacedName
 
 -- a line without a name
@@ -85,14 +86,28 @@ no_label (kind.StandsFor place) = Err fault.MisplacedName
 no_label kind.StandsHere = Err fault.MisplacedName
 no_label (kind.StandsBeside by) = Err fault.MisplacedName
 no_label (kind.StandsApart from) = Err fault.MisplacedName
+no_label (kind.Checks place) = Err fault.MisplacedName
 no_label s = Ok None
+
+-- `CHECK=` takes a name that is known, here or later, and that is one for its location.
+abbrev pub is_same : Location → Location → Bool
+is_same (location.Erasable cell) (location.Erasable other) = cell == other
+is_same (location.Fixed place) (location.Fixed other) = place == other
+is_same one other = false
+
+abbrev pub checked : Option Location → Location → Result (Option Location) SourceFault
+checked (Some one) place = if is_same one place then Ok None else Err fault.CheckFailed
+checked None place = Err fault.CheckFailed
+
+abbrev pub place_of_name : Naming → LocationCounter → LineKind → List ℕ → Result (Option Location) SourceFault
+place_of_name naming counter (kind.Checks place) label = checked (known naming label) place
+place_of_name naming counter s label =
+    if is_some (naming.given label) then Err fault.NameTwice else label_place counter s
 
 abbrev pub place_labelled : Naming → LocationCounter → LineKind → Option (List ℕ) → Result (Option Location) SourceFault
 place_labelled naming counter s None = no_label s
 place_labelled naming counter s (Some label) =
-    if not (is_name label)
-    then Err fault.BadName
-    else (if is_some (naming.given label) then Err fault.NameTwice else label_place counter s)
+    if not (is_name label) then Err fault.BadName else place_of_name naming counter s label
 
 abbrev pub labelled : Result LocationCounter SourceFault → Result (Option Location) SourceFault → Result Labelled SourceFault
 labelled (Err why) place = Err why
@@ -321,6 +336,7 @@ leaves_due (kind.StandsFor place) = true
 leaves_due kind.StandsHere = true
 leaves_due (kind.StandsBeside by) = true
 leaves_due (kind.StandsApart place) = true
+leaves_due (kind.Checks place) = true
 leaves_due kind.Ebank = true
 leaves_due kind.Sbank = true
 leaves_due kind.Nothing = true

@@ -10,7 +10,7 @@ use Rattle.agc_asm.specs.declared.fault.SourceFault.TheVariants as fault
 
 -- directives of other kinds of words
 unfoldable pub unsupported_names : List ℕ
-unsupported_names = codes "2BCADR 2CADR* =PLUS BANK= CHECK= DNADR HEAD LOC TAIL"
+unsupported_names = codes "2BCADR 2CADR* =PLUS BANK= DNADR HEAD LOC TAIL"
 
 -- whether a text of words has a word
 abbrev pub is_among : List ℕ → List ℕ → Bool

@@ -172,6 +172,7 @@ fn writes_nothing(directive: Option<Directive>) -> bool
                 | Directive::IsMinus
                 | Directive::IsEcadr
                 | Directive::Subro
+                | Directive::Check
         )
     )
 }

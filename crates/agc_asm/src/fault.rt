@@ -18,8 +18,10 @@ pub enum SourceFault {
     BadName,
     /// The name is one of the computer's own, or an earlier line has it.
     NameTwice,
-    /// BANK or BLOCK with a name, or `=`, EQUALS, =MINUS or =ECADR without one.
+    /// BANK or BLOCK with a name, or `=`, EQUALS, =MINUS, =ECADR or CHECK= without one.
     MisplacedName,
+    /// CHECK= with a name that no other line has, or that stands for another location.
+    CheckFailed,
     /// The line has no known order or directive after its first column.
     UnknownOrder,
     /// `$FILE`: other files are not included.
@@ -73,7 +75,8 @@ impl SourceFault {
                 "a name is 1 to 8 characters, without a comma and not only digits and signs",
             SourceFault::NameTwice => "an earlier line has this name",
             SourceFault::MisplacedName =>
-                "=, EQUALS, =MINUS and =ECADR need a name in the first column; BANK and BLOCK take none",
+                "=, EQUALS, =MINUS, =ECADR and CHECK= need a name in the first column; BANK and BLOCK take none",
+            SourceFault::CheckFailed => "CHECK= fails: no other line gives this name that place",
             SourceFault::UnknownOrder =>
                 "no order or directive has this name (they come after the first column)",
             SourceFault::Include => "other files are not included: put their lines into this file",

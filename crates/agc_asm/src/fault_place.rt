@@ -30,7 +30,10 @@ pub fn word_at_fault(line: &[u8], fault: SourceFault) -> Spot<'_>
         SourceFault::Listed(LineFault::BadAddress) => 0,
         SourceFault::Listed(LineFault::BadWord) => 1,
         SourceFault::Listed(LineFault::NamedTwice) if is_listed(line) => 0,
-        SourceFault::BadName | SourceFault::NameTwice | SourceFault::Include => 0,
+        SourceFault::BadName
+        | SourceFault::NameTwice
+        | SourceFault::CheckFailed
+        | SourceFault::Include => 0,
         SourceFault::MisplacedName if !is_indented(line) => 0,
         SourceFault::UnknownOrder if has_operation_first(line) || has_letter_first(line) => 0,
         SourceFault::MisplacedName

@@ -62,6 +62,8 @@ pub(crate) enum LineKind {
     StandsBeside(Signed),
     /// Nothing: the line's name is a name for the number by which the next line is behind this location.
     StandsApart(Location),
+    /// Nothing: another line's name is checked to be one for this location.
+    Checks(Location),
     /// Nothing: names the erasable bank of words for BB.
     Ebank,
     /// Nothing: names the superbank of words for BB.
@@ -93,6 +95,7 @@ fn directive_kind(names: &Names, directive: Directive, rest: &[u8]) -> Result<Li
         Directive::Block => block_in(rest),
         Directive::Erase => cells_in(rest),
         Directive::IsMinus => Ok(LineKind::StandsApart(location_in(names, rest)?)),
+        Directive::Check => Ok(LineKind::Checks(location_in(names, rest)?)),
         Directive::IsEcadr => stands_for_cell(location_in(names, rest)?),
         Directive::PairOct
         | Directive::PairDec

@@ -8,14 +8,17 @@ ghost use Rattle.agc_asm.specs.LocationCounter.{
   after_cells,
   after_range,
   after_words,
+  bank_end,
   due_there,
   first_counter,
   in_bank,
   location_at,
   moved_to,
+  nat_max,
   resumed,
   room_at,
   stretch_end,
+  used_up_to,
 };
 ghost use Rattle.agc_listing.specs.Location.{IsWithin};
 ghost use Rattle.agc_asm.specs.declared.location_counter.At.TheVariants as at;
@@ -104,7 +107,7 @@ impl LocationCounter {
             return Err(SourceFault::WrongMemory);
         };
         let end = u32::from(self.left[usize::from(bank)]) + u32::from(count);
-        if end <= u32::from(FIXED_BANK_SIZE) {
+        if end <= bank_end(bank) {
             Ok(self.place_in(bank))
         } else {
             Err(SourceFault::Full)
@@ -122,8 +125,7 @@ impl LocationCounter {
         if let At::Bank(bank) = self.at {
             let end = self.left[usize::from(bank)] + count;
             next.left[usize::from(bank)] = end;
-            let used = self.used[usize::from(bank)];
-            next.used[usize::from(bank)] = if end <= used { used } else { end };
+            next.used = used_up_to(self.used, bank, end);
             next.due = Pending::NOTHING;
         }
         next
@@ -225,6 +227,36 @@ impl LocationCounter {
             Err(SourceFault::Full)
         }
     }
+}
+
+/// Returns the end of the words that a bank takes: bank 03 continues bank 02.
+fn bank_end(bank: u8) -> u32
+    ensures { result ≡ bank_end bank }
+{
+    if bank == 2 {
+        0o4000
+    } else {
+        u32::from(FIXED_BANK_SIZE)
+    }
+}
+
+/// Returns the offsets behind the highest words, after words up to an offset of a bank.
+fn used_up_to(used: [u16; 36], bank: u8, end: u16) -> [u16; 36]
+    requires { bank < fixed_banks }
+    ensures { result ≡ used_up_to used bank end }
+{
+    let mut after = used;
+    after[usize::from(bank)] = later(used[usize::from(bank)], end);
+    if bank == 2 && end > FIXED_BANK_SIZE {
+        after[3] = later(used[3], end - FIXED_BANK_SIZE);
+    }
+    after
+}
+
+fn later(one: u16, other: u16) -> u16
+    ensures { result ≡ nat_max one other }
+{
+    if other <= one { one } else { other }
 }
 
 /// Returns the cell after the last one that ERASE can reserve together with this one.

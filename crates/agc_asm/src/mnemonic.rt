@@ -99,11 +99,13 @@ pub enum Directive {
     IsEcadr,
     /// Means nothing here.
     Subro,
+    /// Checks that the name is one for a location.
+    Check,
 }
 
 impl Directive {
     /// Every directive, once.
-    pub const ALL: [Directive; 43] = [
+    pub const ALL: [Directive; 44] = [
         Directive::SetLoc,
         Directive::Bank,
         Directive::Block,
@@ -147,6 +149,7 @@ impl Directive {
         Directive::IsMinus,
         Directive::IsEcadr,
         Directive::Subro,
+        Directive::Check,
     ];
 
     /// Returns the directive with this name.
@@ -208,6 +211,7 @@ impl Directive {
             Directive::IsMinus => "=MINUS",
             Directive::IsEcadr => "=ECADR",
             Directive::Subro => "SUBRO",
+            Directive::Check => "CHECK=",
         }
     }
 }

@@ -12,6 +12,8 @@ ghost use Rattle.agc_asm.specs.Source.{
   found_from,
   here_place,
   basic_labelled,
+  checked,
+  is_same,
   label_place,
   define_label,
   listed_labelled,
@@ -255,17 +257,41 @@ fn place_labelled(
             LineKind::StandsFor(_)
             | LineKind::StandsHere
             | LineKind::StandsBeside(_)
-            | LineKind::StandsApart(_) => Err(SourceFault::MisplacedName),
+            | LineKind::StandsApart(_)
+            | LineKind::Checks(_) => Err(SourceFault::MisplacedName),
             _ => Ok(None),
         };
     };
     if !is_name(label) {
         return Err(SourceFault::BadName);
     }
+    if let LineKind::Checks(place) = kind {
+        return checked(names.get(label), place);
+    }
     if names.of_line(label).is_some() {
         return Err(SourceFault::NameTwice);
     }
     label_place(counter, kind)
+}
+
+/// Checks that a name is known, and is one for a location.
+fn checked(known: Option<Location>, place: Location) -> Result<Option<Location>, SourceFault>
+    ensures { result ≡ checked known place }
+{
+    match known {
+        Some(known) if is_same(known, place) => Ok(None),
+        _ => Err(SourceFault::CheckFailed),
+    }
+}
+
+fn is_same(one: Location, other: Location) -> bool
+    ensures { result ≡ is_same one other }
+{
+    match (one, other) {
+        (Location::Erasable(one), Location::Erasable(other)) => one == other,
+        (Location::Fixed(one), Location::Fixed(other)) => one == other,
+        _ => false,
+    }
 }
 
 /// Returns the location of a name on a line of a kind.
@@ -285,7 +311,7 @@ fn label_place(counter: LocationCounter, kind: LineKind) -> Result<Option<Locati
         LineKind::StandsBeside(by) => Ok(Some(location_beside(counter.location(), by)?)),
         LineKind::StandsApart(from) => Ok(Some(location_apart(counter.location(), from)?)),
         LineKind::Moves(place) => Ok(Some(place)),
-        LineKind::Nothing => Ok(None),
+        LineKind::Nothing | LineKind::Checks(_) => Ok(None),
         _ => Err(SourceFault::MisplacedName),
     }
 }

@@ -276,6 +276,7 @@ fn leaves_due(kind: LineKind) -> bool
             | LineKind::StandsHere
             | LineKind::StandsBeside(_)
             | LineKind::StandsApart(_)
+            | LineKind::Checks(_)
             | LineKind::Ebank
             | LineKind::Sbank
             | LineKind::Nothing

@@ -35,7 +35,9 @@ pub(crate) fn push_source_why(
     };
     match fault {
         SourceFault::NameTwice => push_taken(text, file, word),
-        SourceFault::BadName | SourceFault::MisplacedName => push_label(text, label, order),
+        SourceFault::BadName | SourceFault::MisplacedName | SourceFault::CheckFailed => {
+            push_label(text, label, order)
+        }
         SourceFault::UnknownOrder => push_no_order(alloc, text, label, order),
         SourceFault::Interpretive(_) => push_interpretive(text, order, word),
         SourceFault::NotSupported => push_order(text, word, "a directive of the flight listings"),

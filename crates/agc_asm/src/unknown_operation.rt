@@ -7,7 +7,7 @@ use agc_interpretive::{Fault, Operation};
 use agc_word::next_word;
 
 /// Directives that this assembler does not support.
-const UNSUPPORTED: &str = "2BCADR 2CADR* =PLUS BANK= CHECK= DNADR HEAD LOC TAIL";
+const UNSUPPORTED: &str = "2BCADR 2CADR* =PLUS BANK= DNADR HEAD LOC TAIL";
 
 /// Returns the fault of a word that is neither an order nor a directive.
 #[tactic(auto, unfolding(crate::specs::UnknownOperation::unknown_operation, crate::specs::UnknownOperation::unsupported_names))]

@@ -527,13 +527,13 @@ fn names_of_sources_at_fault(rt: HostRuntime) {
             ),
             (
                 " = 4000",
-                "=, EQUALS, =MINUS and =ECADR need a name in the first column; BANK and BLOCK take none",
+                "=, EQUALS, =MINUS, =ECADR and CHECK= need a name in the first column; BANK and BLOCK take none",
                 2,
                 "no name is in the first column before `=`",
             ),
             (
                 "X BANK 4",
-                "=, EQUALS, =MINUS and =ECADR need a name in the first column; BANK and BLOCK take none",
+                "=, EQUALS, =MINUS, =ECADR and CHECK= need a name in the first column; BANK and BLOCK take none",
                 1,
                 "`X` is in the first column before `BANK`",
             ),
@@ -716,9 +716,9 @@ fn other_languages_are_named(rt: HostRuntime) {
             ),
             (
                 "X CHECK= 3",
-                "this directive is not supported",
-                3,
-                "`CHECK=` is a directive of the flight listings",
+                "CHECK= fails: no other line gives this name that place",
+                1,
+                "`X` is in the first column before `CHECK=`",
             ),
             (
                 "# caf\u{e9}\n OCT 1 # \u{e9}\n$PAGE.agc",
