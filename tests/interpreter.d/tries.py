@@ -12,6 +12,7 @@ import cases
 import chains
 import costs
 import language
+import logs
 import orbits
 import run
 from agc import Console
@@ -263,7 +264,10 @@ def main():
     if sys.argv[1:] == ["costs"]:
         print("\n".join(measured()))
         sys.exit()
-    for each in (try_programs, try_chains, try_fixed_fixed, try_costs, try_rope, try_page, *orbits.TRIES, try_tutorial, try_law, try_unknown):
+    if sys.argv[1:] == ["logs"]:
+        logs.make()
+        sys.exit()
+    for each in (try_programs, try_chains, try_fixed_fixed, try_costs, try_rope, try_page, *orbits.TRIES, try_tutorial, try_law, logs.try_logs, try_unknown):
         if len(sys.argv) == 1 or each.__name__ in sys.argv[1:]:
             attempt(each)
     finish()
