@@ -21,13 +21,15 @@ time; only `kill` is for any. Start `agc-console --help` once before, so that it
 
 import contextlib
 import heapq
+import io
 import os
 import shutil
 import signal
 import subprocess
 import tempfile
+from collections import deque
 from types import TracebackType
-from typing import IO, Callable, Dict, Iterator, List, NamedTuple, Optional, Sequence, Tuple, Type, Union
+from typing import IO, Callable, Deque, Dict, Iterator, List, NamedTuple, Optional, Sequence, Tuple, Type, Union
 
 __all__ = [
     "Answer", "Breakpoint", "Came", "Console", "Ended", "Error", "Hit", "Location", "NotSaved", "Number", "Refused", "Registers",
@@ -49,8 +51,10 @@ LAST_CYCLE = 1_000_000_000_000
 """The last cycle of all: a machine without a limit stops there."""
 
 LONGEST_ROPE = 1 << 20
-MOST_AT_ONCE = 200  # commands of 120 bytes at most, which a pipe takes
 """More bytes than any rope has."""
+
+MOST_AT_ONCE = 200  # commands of 120 bytes at most, which a pipe takes
+READ_AT_ONCE = 1 << 16  # bytes of answers
 
 CLOSING = 5
 """The seconds that a console may take to end before it is killed."""
@@ -211,7 +215,7 @@ class Console:
         self._quiet = False
         self._owner = os.getpid()
         self._base: List[Event] = []
-        self._injected: List[Event] = []
+        self._injected: List[Tuple[int, str]] = []  # each event, and the cycle to which the machine had come after it
         self._is_detached = detached
         self._errors = _message_file()
         try:
@@ -221,9 +225,11 @@ class Console:
         except OSError as error:
             self._errors.close()
             raise Ended(f"{words[0]}: {error.strerror}", None) from None
-        assert self._process.stdin and self._process.stdout
+        assert self._process.stdin and isinstance(self._process.stdout, io.BufferedReader)
         self._commands: IO[bytes] = self._process.stdin
-        self._answers: IO[bytes] = self._process.stdout
+        self._answers: io.BufferedReader = self._process.stdout
+        self._lines: Deque[bytes] = deque()  # lines of answers that were read and not taken
+        self._begun = b""  # what was read of the next line
         try:
             self._base = [_event_of(line) for line in self.say("script").lines]
         except BaseException:
@@ -312,16 +318,18 @@ class Console:
 
     def say(self, command: str) -> Answer:
         """Says a command, as docs/CONSOLE.md has them, and returns its answer; `Refused` if that is an error."""
-        line = _line(command)
+        line, refused = _line(command), None
         waiting, self._waiting = self._waiting, []
         if self._commands.closed:
             raise Ended("the console is closed", self._process.returncode)
         try:
-            self._commands.write("".join([f"{event}\n" for event in waiting]).encode() + line if waiting else line)
+            self._commands.write("\n".join([*waiting, ""]).encode() + line if waiting else line)
             self._commands.flush()
-            refused = self._take_waiting(waiting) if waiting else None
+            if waiting:
+                refused = self._take_waiting(waiting)
             answer = Answer(self._answer(), self._cycle, self._stop)
-            self._keep(command.split(), answer)
+            if not command.startswith("go "):  # which is the most frequent one, and keeps nothing
+                self._keep(command.split(), answer)
         except BrokenPipeError:
             raise self._ended() from None
         except Error:
@@ -378,15 +386,21 @@ class Console:
     def _take_waiting(self, commands: List[str]) -> Optional[Refused]:
         """Reads the answers to events that have waited. Returns why the first of the refused ones was refused."""
         first = None
+        lines, injected, on_answer = self._lines, self._injected, self.on_answer
         for command in commands:
             try:
-                self._answer()
+                while not lines:
+                    self._read_more()
+                if lines[0].startswith(b"at "):  # the answer to an event that was taken
+                    self._cycle, self._stop = int(lines.popleft()[3:]), None
+                else:
+                    self._answer()
             except Refused as refused:
                 first = first or refused
                 continue
-            self._keep_event(command, self._cycle)
-            if self.on_answer is not None:
-                self.on_answer(command, Answer([], self._cycle, self._stop))
+            injected.append((self._cycle, command))
+            if on_answer is not None:
+                on_answer(command, Answer([], self._cycle, self._stop))
         return first
 
     def _send_waiting(self) -> None:
@@ -396,44 +410,37 @@ class Console:
 
     def _inject(self, command: str) -> None:
         """Injects an event: with the next command, if events are deferred and there is surely room for this one."""
-        if self._is_deferring and command.isascii() and "\n" not in command and self._has_room():
-            self._waiting.append(command)
-        else:
-            self.say(command)
-
-    def _has_room(self) -> bool:
-        """Whether the console will not refuse one more event for want of room, or because the machine has stopped."""
-        waiting = len(self._waiting)
-        return waiting < MOST_WAITING and len(self._base) + len(self._injected) + waiting < SURE_EVENTS and self._stop is None
+        if self._is_deferring and self._stop is None and command.isascii() and "\n" not in command:
+            waiting = len(self._waiting)
+            # there is surely room for it
+            if waiting < MOST_WAITING and len(self._base) + len(self._injected) + waiting < SURE_EVENTS:
+                self._waiting.append(command)
+                return
+        self.say(command)
 
     def _keep(self, words: List[str], answer: Answer) -> None:
         """Keeps what the script of the session is made of, so that it is available after the console has ended, too."""
         if words[0] in EVENTS:
-            self._keep_event(" ".join(words), answer.cycle)
+            self._injected.append((answer.cycle, " ".join(words)))
         elif words[0] == "back":
             # only `back C` drops the events at the cycle
             way = words[2:] if words[1] == "list" else words[1:]
             last = answer.cycle if way[0] in ("until", "step") else answer.cycle - 1
-            self._injected = [event for event in self._injected if event.cycle <= last]
+            self._injected = [pair for pair in self._injected if _event_after(*pair).cycle <= last]
         elif words[0] == "quiet":
             self._quiet = words[1:] != ["off"]
-
-    def _keep_event(self, command: str, after: int) -> None:
-        """Keeps an event, after which the machine has come to a cycle."""
-        cycle = after - 1 if command.startswith("pulse") else after
-        self._injected.append(Event(cycle, f"{cycle} {command}"))
 
     def _answer(self) -> List[str]:
         """Reads an answer. Returns its lines but for the last, which says the cycle and the stop."""
         lines: List[str] = []
         while True:
-            line = self._answers.readline()
-            if line[-1:] != b"\n":
-                raise self._ended()
-            if line[:3] == b"at ":
+            while not self._lines:
+                self._read_more()
+            line = self._lines.popleft()
+            if line.startswith(b"at "):
                 self._cycle, self._stop = int(line[3:]), None
                 return lines
-            text = line[:-1].decode()
+            text = line.decode()
             first, _, rest = text.partition(" ")
             if first == "stop":
                 self._stop, _, cycle = rest.partition(" at ")
@@ -442,6 +449,14 @@ class Console:
             if first == "error:":
                 raise _refused(rest)
             lines.append(text)
+
+    def _read_more(self) -> None:
+        """Reads what the console has printed by now, or waits for it."""
+        found = self._answers.read1(READ_AT_ONCE)
+        if not found:
+            raise self._ended()
+        *lines, self._begun = (self._begun + found).split(b"\n")
+        self._lines.extend(lines)
 
     def _ended(self) -> Ended:
         status = self._process.wait()
@@ -684,7 +699,8 @@ class Console:
         try:
             lines = self.say("script").lines
         except Ended:
-            lines = [event.line for event in heapq.merge(self._base, self._injected, key=lambda event: event.cycle)]
+            injected = [_event_after(*pair) for pair in self._injected]
+            lines = [event.line for event in heapq.merge(self._base, injected, key=lambda event: event.cycle)]
         return "".join(line + "\n" for line in lines)
 
     def save(self, file: Path) -> None:
@@ -707,7 +723,7 @@ class Console:
 
 def _line(command: str) -> bytes:
     """A command for the console; ValueError if it is empty, a comment or more than one line."""
-    if "\n" in command or not command.strip() or command.lstrip().startswith("#"):
+    if "\n" in command or not command[:1].isalpha() and command.lstrip()[:1] in ("", "#"):
         raise ValueError(f"no command: {command!r}")
     try:
         return command.encode() + b"\n"
@@ -740,6 +756,12 @@ def _message_file() -> IO[bytes]:
 def _event_of(line: str) -> Event:
     """An event from a line of the script."""
     return Event(int(line.split(" ", 1)[0]), line)
+
+
+def _event_after(cycle: int, command: str) -> Event:
+    """The event of a command after which the machine has come to a cycle: a pulse costs one."""
+    begun = cycle - 1 if command.startswith("pulse") else cycle
+    return Event(begun, f"{begun} {command}")
 
 
 def _refused(reason: str) -> Refused:

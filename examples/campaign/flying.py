@@ -135,6 +135,8 @@ class Witness(Console):
 
     def go_to(self, cycle):
         """As the console's, with a stop at each call of BAILOUT that a restart has brought."""
+        if not self.coming:
+            return super().go_to(cycle)
         writes = []
         while self.coming and self.coming[0] < cycle:
             if self.cycle < self.coming[0]:

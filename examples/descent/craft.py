@@ -158,7 +158,10 @@ class Craft:
     def pulses(self):
         """The pulses since the last call: counter, kind and how many."""
         up, forward = math.floor(self.counted[PIPAX] / PULSE), math.floor(self.counted[PIPAZ] / PULSE)
-        for counter, value in ((PIPAX, up), (PIPAZ, forward), (CDUY, self.angle())):
+        counts = {PIPAX: up, PIPAZ: forward, CDUY: self.angle()}
+        if counts == self.sent:  # in every third step
+            return
+        for counter, value in counts.items():
             more = value - self.sent[counter]
             if more:
                 more = max(-FASTEST[counter], min(FASTEST[counter], more))

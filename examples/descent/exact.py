@@ -14,10 +14,6 @@ SEEDS = MODULUS - 1
 """Seeds are 0 to SEEDS - 1."""
 
 
-TERMS = [(last * (last + 1), last * (last - 1)) for last in (14, 12, 10, 8, 6, 4, 2)]
-"""The quotients of successive terms of both power series."""
-
-
 def nearest(value):
     """Returns the nearest whole number; halves go up."""
     return math.floor(value + 0.5)
@@ -28,16 +24,24 @@ def degrees(radians):
     return radians * (180 / PI)
 
 
+def series_of(square):
+    """Returns the power series of an angle's sine divided by the angle, and of its cosine, from the square of the angle. They
+    are written out, which Python runs faster than a loop: the divisors are 2 * 3, 4 * 5 .. 14 * 15, and 1 * 2 .. 13 * 14."""
+    sine = 1.0 - square / 110.0 * (1.0 - square / 156.0 * (1.0 - square / 210.0))
+    sine = 1.0 - square / 6.0 * (1.0 - square / 20.0 * (1.0 - square / 42.0 * (1.0 - square / 72.0 * sine)))
+    cosine = 1.0 - square / 90.0 * (1.0 - square / 132.0 * (1.0 - square / 182.0))
+    cosine = 1.0 - square / 2.0 * (1.0 - square / 12.0 * (1.0 - square / 30.0 * (1.0 - square / 56.0 * cosine)))
+    return sine, cosine
+
+
 def sine_and_cosine(radians):
     """Returns both by their power series, after whole quarters of a turn are taken off."""
     quarters = math.floor(radians / QUARTER + 0.5)
     rest = radians - quarters * QUARTER
-    square = rest * rest
-    sine, cosine = 1.0, 1.0
-    for odd, even in TERMS:
-        sine = 1 - square / odd * sine
-        cosine = 1 - square / even * cosine
+    sine, cosine = series_of(rest * rest)
     sine *= rest
+    if quarters == 0:
+        return sine, cosine
     turned = quarters - 4 * math.floor(quarters / 4)
     if turned == 0:
         return sine, cosine
