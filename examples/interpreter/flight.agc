@@ -110,6 +110,7 @@ CSPERIOD ERASE  +1          # the period in hundredths of a second
 RKEPT   ERASE   +5          # a state that is kept meanwhile
 VKEPT   ERASE   +5
 TKEPT   ERASE   +1
+KEPT    ERASE               # 1 while the state is not that of the craft
 DT      ERASE   +1          # KEPLER's step of time, [19] s
 BURNV   ERASE   +5          # the change of speed, [12] m/s
 APO     ERASE   +1          # apolune and perilune above the surface, [26] m

@@ -151,6 +151,8 @@ DOLOAD  TC      INTPRET
                 CHECK
         BMN     EXIT
                 BADLOAD
+        CA      ZERO
+        TS      KEPT
         TCF     DOORBIT
 BADLOAD CALL
                 RESTORE
@@ -204,6 +206,8 @@ DOBURN  CA      ZERO
                 NOUGHT
         STORE   VGO
         EXIT
+        CA      ZERO
+        TS      KEPT
         TCF     DOORBIT
 
 # THEBURN: the state at TARGET, with the burn of noun 81, and its elements. MPAC is minus if they cannot be computed.
@@ -247,7 +251,7 @@ BURNBAD DLOAD   GOTO
                 LESSHALF
                 BURNQ
 
-# KEEP and RESTORE: the state is kept, and comes back.
+# KEEP and RESTORE: the state is kept, and comes back. While KEPT is 1 a fresh start brings it back, too.
 KEEP    VLOAD
                 RVEC
         STOVL   RKEPT
@@ -255,7 +259,9 @@ KEEP    VLOAD
         STODL   VKEPT
                 TSTATE
         STORE   TKEPT
-        RVQ
+        SSP     RVQ
+                KEPT
+                1
 RESTORE VLOAD
                 RKEPT
         STOVL   RVEC
@@ -263,7 +269,9 @@ RESTORE VLOAD
         STODL   VVEC
                 TKEPT
         STORE   TSTATE
-        RVQ
+        SSP     RVQ
+                KEPT
+                0
 
 # CHECK: ELEMENTS, and MPAC minus if this is no ellipse that the program can compute: half its axis from 869 to 27000 km, e up to .9.
 CHECK   STQ     VLOAD

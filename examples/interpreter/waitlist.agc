@@ -205,7 +205,19 @@ POWERUP CA      ZERO
         TCF     FRESH
 FRESHALM CA     BIT9        # PROG lights
 FRESH   TS      NEWPRIO
-        CA      CLEARN
+        CCS     KEPT        # ORBJOB was about to change the state: the one before comes back
+        TCF     +2
+        TCF     FRESH0
+        CA      THIRTEEN
+FRESHK  TS      FRSI
+        INDEX   FRSI
+        CA      RKEPT
+        INDEX   FRSI
+        TS      RVEC
+        CCS     FRSI
+        TCF     FRESHK
+        TS      KEPT
+FRESH0  CA      CLEARN
 FRESH1  TS      FRSI
         CA      ZERO
         INDEX   FRSI
@@ -265,6 +277,7 @@ FRESH4  CS      ZERO
         TCF     ENDOFJOB
 CLEARN  DEC     55          # from T3MORE to CLEARED
 SEVEN   DEC     7
+THIRTEEN DEC    13
 DT80S   DEC     8000
 TIME3ST DEC     8384        # 80 seconds to the carry
 ALLLAMPS OCT    162         # COMP ACTY, KEY REL, flash, OPR ERR

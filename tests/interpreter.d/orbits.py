@@ -267,6 +267,20 @@ def try_plans():
         judge("a plan leaves the state alone", before, (agc.vector("RVEC", orbit.PLACE), agc.vector("VVEC", orbit.SPEED)))
 
 
+def try_fresh_start():
+    """A fresh start while ORBJOB plans, loads or burns leaves the state as it was."""
+    wrong_state = orbit.keyed_state((1838090.0, 0.0, 0.0), (0.0, 2400.0, 0.0), 0)
+    for what, keys in (("a plan", orbit.keyed_burn(3000, (50, 0, 0))), ("a load", wrong_state)):
+        with console() as agc:
+            for phase in range(8):
+                before = agc.cells("RVEC", 14)
+                agc.type(keys)
+                agc.go(11_000 * phase)
+                panel = agc.show("V36E")
+                judge(f"{what}, phase {phase}: the state", before, agc.cells("RVEC", 14))
+                judge(f"{what}, phase {phase}: the lamps", "none", panel["LAMPS"])
+
+
 def try_busy():
     """Keys that are pressed while ORBJOB computes find the program listening, and do not change what is computed."""
     place, speed = begun(170, 60, 600, 10)
@@ -364,4 +378,4 @@ def try_guides():
                 check(f"{title}, step {number}: {wanted}, found {agc.panel()}", shows())
 
 
-TRIES = (try_verb_82, try_states, try_wrong_keys, try_no_orbit, try_countdown, try_plans, try_busy, try_orbit_page, try_exercise, try_guides, try_view)
+TRIES = (try_verb_82, try_states, try_wrong_keys, try_no_orbit, try_countdown, try_plans, try_fresh_start, try_busy, try_orbit_page, try_exercise, try_guides, try_view)
