@@ -1,14 +1,16 @@
 """Random sessions on agc.html, by the acts and comparisons that tests/web has for sessions in Python."""
 import os
 import random
+import subprocess
 from collections import namedtuple
 
 from agc import Registers
 from agc_web.journal import Event
+from judge import TOP, judge
 from local import LocalPage, LocalSite, web
 from site_of import example
 
-SESSIONS, ACTS = int(os.environ.get('SESSIONS', 3)), 25
+ACTS = 25  # of a session
 Seen = namedtuple('Seen', 'cycle')
 
 
@@ -99,6 +101,8 @@ class View:
         return self.parts['machine']['next']
 
     def cells(self, place, count):
+        if place.startswith('E'):
+            return self.site.value(f'session.look({{ bank: {place[1]} }})')['bank'][:count]
         places = [f'{int(place, 8) + number:04o}' for number in range(count)]
         return list(self.site.value(f"session.look({{ cells: {places} }}).then((seen) => {places}.map((place) => seen.cells[place]))"))
 
@@ -107,8 +111,8 @@ def try_random():
     """Whatever is pressed, stepped, gone back and undone, the script repeats it."""
     rope = example('verbs', 'rope')
     page = LocalPage(LocalSite(rope))
-    for seed in range(SESSIONS):
-        if seed:
+    for number, seed in enumerate(web.seeds(3)):
+        if number:
             page.site.open()
         chance, session = random.Random(seed), PageSession(page.site)
         done, dropped = [], []
@@ -118,7 +122,19 @@ def try_random():
             what = f'random session {seed} after {done[-3:]}'
             web.compare_session(what, session, rope)
             web.compare_scripts(what, done[-1], before, session, dropped)
+        web.compare_end(f'random session {seed} at its end', session, rope)
+        compare_films(f'random session {seed} at its end', page, rope)
     page.close()
+
+
+def compare_films(what, page, rope):
+    """Compares the changes of the panel in the page's film with those that agc-study makes of the script."""
+    path, limit = os.path.join(page.folder(), 'filmed'), page.site.state()['time']['limit']
+    with open(path, 'w') as file:
+        file.write(page.site.script())
+    words = [os.path.join(TOP, 'agc-study'), 'film', rope, path, '--limit', str(limit)]
+    wanted = subprocess.run(words, capture_output=True, text=True, check=True).stdout
+    judge(f'{what}: the film', web.film.frames_in(wanted, 'left'), web.film.frames_in(page.site.value('session.film()'), 'left'))
 
 
 TRIES = (try_random,)

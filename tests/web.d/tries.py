@@ -1357,7 +1357,7 @@ def try_face():
 def try_random():
     """Random sessions: whatever is pressed, stepped, gone back and undone, the script repeats it."""
     rope = example('verbs', 'rope')
-    for seed in range(4):
+    for seed in seeds(4):
         chance = random.Random(seed)
         session = Session(Console(rope, program=[CONSOLE], detached=True))
         done, dropped = [], []
@@ -1368,8 +1368,17 @@ def try_random():
                 what = f'random session {seed} after {done[-3:]}'
                 compare_session(what, session, rope)
                 compare_scripts(what, done[-1], before, session, dropped)
+            what = f'random session {seed} at its end'
+            log = compare_end(what, session, rope)
+            judge(f'{what}: its own log', log, log_of(session))
         finally:
             session.close()
+
+
+def seeds(usual):
+    """Returns the seeds of random sessions: SESSIONS of them, from SEED on; by default the first few."""
+    first = int(os.environ.get('SEED', 0))
+    return range(first, first + int(os.environ.get('SESSIONS', usual)))
 
 
 def random_act(session, chance):
@@ -1435,6 +1444,34 @@ def compare_session(what, session, rope):
     last = [line for line in session.history if ' - key ' not in line and ' - pro ' not in line]
     if last:
         judge(f'{what}: the last boundary', True, cycle - 9 < int(last[-1].split(' ')[0]) < cycle)
+
+
+def compare_end(what, session, rope):
+    """Compares a session that ends with what agc and agc-console make of its script: panel and all erasable memory. Returns the
+    log, which both have."""
+    script, cycle = session.script(), session.console.cycle
+    with replayed(rope, script, 0) as console:
+        log = [f'{cycle} {channel:03o} {value:05o}' for cycle, channel, value in console.go_to(cycle)]
+        memory = [console.cells(f'E{bank},1400', 256) for bank in range(8)]
+    words = [AGC, rope, os.path.join(FOLDER, 'replayed'), '--limit', str(max(cycle, 1)), '--log']
+    lines = subprocess.run(words, capture_output=True, text=True, check=True).stdout.splitlines()
+    judge(f'{what}: the panel of agc', [f'{name} {text}' for name, text in session.inject(lambda machine: machine.panel()).items()], lines[:8])
+    judge(f'{what}: the log of agc', log, lines[9:])
+    judge(f'{what}: the memory', memory, session.inject(lambda machine: [machine.cells(f'E{bank},1400', 256) for bank in range(8)]))
+    return log
+
+
+def log_of(session):
+    """Returns the channel writes of a session, by its own machine: it goes back to the beginning, and has all events once more."""
+    events, end = list(session.journal.events), session.console.cycle
+    return session.inject(lambda machine: [line[6:] for line in written_again(machine, events, end)])
+
+
+def written_again(machine, events, end):
+    """Takes a session's machine to its beginning and on to its end; returns the lines of the writes on the way."""
+    commands = ['quiet off', 'back 0', *[line for event in events for line in (f'go to {event.cycle}', event.command)], f'go to {end}']
+    lines = [line for command in commands for line in machine.say(command).lines]
+    return [line for line in lines if line.startswith('write ')]
 
 
 def try_client():
