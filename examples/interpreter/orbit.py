@@ -127,14 +127,14 @@ class Orbit(Console):
 
     def type(self, keys):
         """Presses keys, ten a second: V, N, E (ENTR), P (PRO), C (CLR), K (KEY REL), R (RSET), digits and signs."""
+        commands = []
         for key in keys:
             if key == "P":
-                self.pro(True)
-                self.go(3 * KEY_CYCLES)
-                self.pro(False)
+                commands += ["pro down", f"go {3 * KEY_CYCLES}", "pro up"]
             else:
-                self.key(KEYS.get(key, key))
-            self.go(KEY_CYCLES)
+                commands.append(f"key {KEYS.get(key, key)}")
+            commands.append(f"go {KEY_CYCLES}")
+        self.say_all(commands)
 
     def computed(self):
         """Waits until what was asked is computed and shown."""
