@@ -3,6 +3,7 @@
 The model is a second reading of docs/study/restore.md: by which rule a place is decided, and which word it gets.
 """
 
+import os
 import subprocess
 from collections import Counter
 
@@ -274,6 +275,47 @@ def faults(_draw):
     status, _, lines = merge("none", "a")
     judge.judge("no file", 2, status)
     judge.check("no file: it is named", lines[0].startswith("agc-study: none: ") and "agc-study: in dump A" in lines)
+
+
+def rope_with_sums():
+    """Returns the words of the landing's program, with a last word in each bank that makes its sum right."""
+    def study(*args):
+        return subprocess.run([judge.STUDY, *args], capture_output=True, check=False).stdout
+
+    with open("program", "wb") as file:
+        file.write(study("convert", os.path.join(judge.TOP, "examples/descent/rope"), "--to", "parity"))
+    banks = [line.split()[1].rstrip(":") for line in study("sums", "program", "--form", "parity").decode().splitlines()]
+    return read(study("patch", "program", "--form", "parity", *(word for bank in banks for word in ("--sum", bank))))
+
+
+def commands_of_page():
+    """Returns the commands of docs/study/restore.md that lead from two bad dumps to the rope."""
+    with open(os.path.join(judge.TOP, "docs/study/restore.md"), encoding="utf-8") as file:
+        text = file.read().split("### From two bad dumps to the rope\n")[1].split("\n## ")[0]
+    return [line.strip() for line in text.splitlines() if line.startswith("    ./agc-study ")]
+
+
+def five_commands(draw):
+    """The page's five commands make the rope from two bad dumps, as the page says."""
+    sound = rope_with_sums()
+    used = [at for at, word in enumerate(sound) if word]
+    commands = commands_of_page()
+    judge.judge("five commands: their number", 5, len(commands))
+    for n in range(3):
+        dumps = [list(sound), list(sound)]
+        for count, at in enumerate(draw.sample(used, 60)):
+            dumps[count % 2][at] ^= 1 << draw.randrange(16)
+        write("one.bin", [swapped(word) for word in dumps[0]])
+        write("two.bin", [word ^ 0xFFFF for word in dumps[1]])
+        one, two, _, totals, last = [
+            subprocess.run(["bash", "-c", command.replace("./agc-study", '"$0"'), judge.STUDY], capture_output=True, check=False).stdout.decode()
+            for command in commands]
+        judge.check(f"five commands {n}: the first reading", "in another form (sure), read as parity --swap: " in one)
+        judge.check(f"five commands {n}: the second reading", "in another form (sure), read as parity --bits inverted: " in two)
+        with open("rope", "rb") as file:
+            judge.check(f"five commands {n}: the rope", read(file.read()) == sound)
+        judge.check(f"five commands {n}: its sums", totals and "should be" not in totals)
+        judge.check(f"five commands {n}: its parity", "read as parity: 100% of the parity bits are right" in last and "wrong parity" not in last)
 
 
 GROUPS = (single_bits, one_word_of_a_bank, any_damage, readings, several_layouts, lines_are_a_patch, faults)

@@ -356,7 +356,7 @@ def sound_ropes(draw):
 def main():
     draw = random.Random(int(os.environ.get("RESTORE_SEED", "69")))
     for group in (single_words, two_that_fit, sums_unknown, stuck_columns, changed_bits, layouts, modules,
-                  moved_modules, repeated_code, parity_bits, sound_ropes, *merging.GROUPS, *sums.GROUPS):
+                  moved_modules, repeated_code, parity_bits, sound_ropes, *merging.GROUPS, *sums.GROUPS, merging.five_commands):
         judge.attempt(group, draw)
     judge.finish()
 
