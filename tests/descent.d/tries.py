@@ -336,7 +336,7 @@ def try_mistakes():
         (2, ["--key", "x:VERB"], "craft.py: error: argument --key: invalid key_at value: 'x:VERB'"),
     ):
         flight = subprocess.run(
-            [sys.executable, "-B", example.__file__, "--program", console, *words], capture_output=True, text=True, timeout=20
+            [sys.executable, "-B", example.__file__, "--program", console, *words], capture_output=True, text=True, timeout=300
         )
         lines = flight.stderr.splitlines() or [""]
         judge(f"craft.py {' '.join(words)}", (status, "", told), (flight.returncode, flight.stdout, lines[-1]))

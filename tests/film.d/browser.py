@@ -10,7 +10,7 @@ FLAGS = [
     '--disable-background-networking', '--disable-component-update', '--host-resolver-rules=MAP * ~NOTFOUND',
     '--remote-debugging-pipe',
 ]
-LONGEST = 30  # seconds that an answer may take
+LONGEST = 240  # seconds that an answer may take
 KEYS = {'Space': (' ', 32), 'ArrowLeft': ('ArrowLeft', 37), 'ArrowRight': ('ArrowRight', 39), 'Home': ('Home', 36),
         'End': ('End', 35)}
 

@@ -99,8 +99,8 @@ class Tries:
             self.browser.click((box['left'] + box['right']) / 2, (box['top'] + box['bottom']) / 2)
 
     def wait(self, script):
-        """Waits until a script gives true, at most three seconds; whether it did."""
-        end = time.monotonic() + 3
+        """Waits until a script gives true, at most four minutes; whether it did."""
+        end = time.monotonic() + 240
         while time.monotonic() < end:
             if self.browser.value(script):
                 return True

@@ -145,7 +145,7 @@ def try_program():
 def refused(name, words, told):
     """A flight that is not made: its status, and the last line that it says."""
     program = [sys.executable, "-B", example.__file__, "--seconds", "1", "--program", console]
-    flight = subprocess.run([*program, *words], capture_output=True, text=True, timeout=20)
+    flight = subprocess.run([*program, *words], capture_output=True, text=True, timeout=300)
     lines = flight.stderr.splitlines() or [""]
     judge(name, (told[0], "", told[1]), (flight.returncode, flight.stdout, lines[-1]))
 

@@ -86,7 +86,7 @@ class LocalPage(web.Page):  # type: ignore[name-defined]
             self.window.ask('Page.addScriptToEvaluateOnNewDocument', source=self.before)
         self.window.load('about:blank')
         self.window.load(f'file://{FILE}{hash}')
-        wait(lambda: self.text('state') not in (None, ''), 60)
+        wait(lambda: self.text('state') not in (None, ''), 300)
         self.look()
 
     def look(self):
@@ -98,7 +98,7 @@ class LocalPage(web.Page):  # type: ignore[name-defined]
         """Reloads the page, and waits for its session."""
         self.value('window.isOld = true')
         self.window.ask('Page.reload')
-        wait(lambda: self.value("!window.isOld && Boolean(document.getElementById('state')?.textContent)"), 200)
+        wait(lambda: self.value("!window.isOld && Boolean(document.getElementById('state')?.textContent)"), 300)
         self.look()
 
     def notice(self):

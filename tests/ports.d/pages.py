@@ -115,7 +115,7 @@ def try_page(page, address):
           document.getElementById("form").requestSubmit();
         }})(document.getElementById("line"))""")
     came = page.value(f"""(async () => {{
-      for (let n = 0; n < 500 && !/at 40/.test({said}); n++) await new Promise((wake) => setTimeout(wake, 20));
+      for (let n = 0; n < 15000 && !/at 40/.test({said}); n++) await new Promise((wake) => setTimeout(wake, 20));
       return {said};
     }})()""")
     answers = [line for line in came.split("\n") if line and line not in ("go to 10", "key 4", "go 30")]

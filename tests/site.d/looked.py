@@ -9,6 +9,7 @@ from judge import check, judge, scratch_folder
 from looks import READ
 from pages import FOLDER, documents, pages_of_site, place_of
 from site_of import wait
+from views import steady
 from window import Window
 
 OFFLINE = {'offline': True, 'latency': 0, 'downloadThroughput': 0, 'uploadThroughput': 0}
@@ -82,11 +83,12 @@ def click(window, selector):
     """Clicks the middle of an element."""
     box = f"""(() => {{
         const element = document.querySelector({json.dumps(selector)});
+        if (!element) return null;
         element.scrollIntoView({{ block: 'center', behavior: 'instant' }});
         const {{ left, right, top, bottom }} = element.getBoundingClientRect();
         return [(left + right) / 2, (top + bottom) / 2];
     }})()"""
-    window.click(*window.value(box))
+    window.click(*steady(window, box))
 
 
 def comes(window, script, frame=False):
@@ -100,7 +102,7 @@ def comes(window, script, frame=False):
             found.clear()
         return bool(found and found[0])
 
-    wait(is_there, 60)
+    wait(is_there, 300)
     return found[0] if found else None
 
 

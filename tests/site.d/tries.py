@@ -119,7 +119,7 @@ def try_server():
 
 def fetched(port, path):
     """Returns the SHA-256 of what a server has at a path."""
-    connection = http.client.HTTPConnection('127.0.0.1', port, timeout=30)
+    connection = http.client.HTTPConnection('127.0.0.1', port, timeout=300)
     connection.request('GET', f'/{path}')
     answer = connection.getresponse()
     data = answer.read()

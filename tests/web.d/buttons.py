@@ -43,13 +43,13 @@ class Flight:
     def begin(self):
         """Flies on by P64, until the engine is on."""
         begin_flight(self.site, self.window)
-        judge('the engine is on', True, wait(lambda: self.rows()['Thrust'] != 'engine off', 120))
+        judge('the engine is on', True, wait(lambda: self.rows()['Thrust'] != 'engine off', 600))
         judge('the approach', '64', self.program())
 
     def run_on(self, seconds):
         """Waits for some seconds of machine time."""
         end = self.cycle() + seconds * A_SECOND
-        judge('time goes on', True, wait(lambda: self.cycle() >= end, 120))
+        judge('time goes on', True, wait(lambda: self.cycle() >= end, 600))
 
     def click(self, label):
         """Clicks a button of the page; returns the cycle before that."""
@@ -70,7 +70,7 @@ def try_buttons():
     moved = redesignate(flight)
     lose_radar(flight)
     flight.site.do('speed', times=1000)
-    judge('it comes to the ground', True, wait(flight.outcome, 300))
+    judge('it comes to the ground', True, wait(flight.outcome, 600))
     flight.site.do('pause')
     found = re.fullmatch(r'Landed: [01]\.\d\d m/s, (\d+) m from the site', flight.outcome())
     judge(f'it lands: {flight.outcome()}', True, found is not None)
@@ -121,13 +121,13 @@ def row(name):
 def overload(flight):
     """The rendezvous radar, and a crew that watches the range, are too much: the alarm is 1202, and the flight goes on."""
     before = flight.click('Rendezvous radar: 1202')
-    judge('the alarm comes', True, wait(lambda: 'PROG' in flight.site.state()['panel']['LAMPS'], 120))
+    judge('the alarm comes', True, wait(lambda: 'PROG' in flight.site.state()['panel']['LAMPS'], 600))
     judge('it is 1202', 0o1202, look_at_cell(flight.site, 'FAILREG+2'))
     since = flight.since(before)
     judge('the crew watches the range', [f'key {key}' for key in 'VERB 1 6 NOUN 6 8 ENTR'.split()], [each for each in since if each.startswith('key ')])
     judge('the radar sends', True, since.count('pulse 36 pcdu') >= 65)
     judge('the flight goes on', '64', flight.program())
-    judge('it is off again', True, wait(lambda: flight.rows()['Rendezvous radar'] == 'off again', 120))
+    judge('it is off again', True, wait(lambda: flight.rows()['Rendezvous radar'] == 'off again', 600))
 
 
 def repeat(flight):
@@ -165,10 +165,10 @@ def begin_again(flight):
 def abort(flight):
     """The button types V37E70E, and the craft climbs."""
     before = flight.click('Abort')
-    judge('program 70', True, wait(lambda: flight.program() == '70', 120))
+    judge('program 70', True, wait(lambda: flight.program() == '70', 600))
     judge('what was typed', [f'key {key}' for key in 'VERB 3 7 ENTR 7 0 ENTR'.split()], [each for each in flight.since(before) if each.startswith('key ')])
     flight.site.do('speed', times=100)
-    judge('it climbs', True, wait(lambda: flight.outcome().startswith('Aborted: '), 240))
+    judge('it climbs', True, wait(lambda: flight.outcome().startswith('Aborted: '), 600))
 
 
 TRIES = (try_buttons,)

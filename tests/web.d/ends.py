@@ -11,7 +11,7 @@ import time
 
 from agc import Console
 from agc_web.session import Session
-from judge import CONSOLE, TOP, judge, scratch_folder
+from judge import CONSOLE, TOP, judge, scratch_folder, slowness
 from site_of import LONGEST, Site, example, is_running, keys_in, started, wait
 
 FOLDER = scratch_folder()
@@ -65,7 +65,7 @@ def compare_end(what, found, script, saved=None):
     """Checks that a session ended soon, with status 0, no message and its script saved or printed."""
     status, out, err, seconds = found
     judge(f'{what}: the status, and no message', (0, ''), (status, err))
-    judge(f'{what}: it ends soon ({seconds:.2f} s)', True, seconds < SOON)
+    judge(f'{what}: it ends soon ({seconds:.2f} s)', True, seconds < SOON or seconds < SOON * slowness())
     judge(f'{what}: the script', script, read(saved) if saved else out.split('\n', 1)[1])
 
 
@@ -126,9 +126,12 @@ def try_second_signal():
     site = started(example('verbs', 'rope'), '--save', saved)
     script = typed(site)
     os.kill(site.console(), signal.SIGSTOP)
-    found = ended(site, signal.SIGINT, signal.SIGINT, gap=0.2)
+    os.kill(site.process.pid, signal.SIGINT)
+    judge('the script is saved', True, wait(lambda: read(saved) == script))
+    time.sleep(0.2)
+    found = ended(site, signal.SIGINT)
     compare_end('a second signal', found, script, saved)
-    judge(f'the second one ends it at once ({found[3]:.2f} s)', True, found[3] < 1)
+    judge(f'the second one ends it at once ({found[3]:.2f} s)', True, found[3] < 1 or found[3] < slowness())
 
 
 def try_refused_files():
@@ -207,7 +210,7 @@ def try_full_output():
 
 def try_film_end():
     """SIGTERM ends the process of a film that is being made."""
-    folder = copy_with_study('slow', '#!/bin/sh\nsleep 61\necho film\n')
+    folder = copy_with_study('slow', '#!/bin/sh\nsleep 901\necho film\n')
     environment = {**os.environ, 'PYTHONPATH': os.path.join(folder, 'clients', 'python')}
     site = Site([sys.executable, '-B', '-m', 'agc_web', example('keys', 'rope'), '--port', '0'], environment)
     threading.Thread(target=lambda: wait_refused(lambda: site.request('GET', '/film')), daemon=True).start()

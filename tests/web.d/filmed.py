@@ -48,7 +48,7 @@ def try_landing_film():
         seen.append((state['time']['cycle'], float(dict(view['rows'])['Altitude'].split(' ')[0])))
         return view['outcome']['text']
 
-    judge('it lands', True, wait(landed, 240))
+    judge('it lands', True, wait(landed, 600))
     site.do('pause')
     window.close()
     state = site.state()
@@ -70,7 +70,7 @@ def look_at_film(text, seen, state):
     judge('there is enough to compare', True, len(seen) > 10)
     for cycle, altitude in seen[::max(1, len(seen) // 8)]:
         window.value(f"location.hash = '#cycle={cycle}'; undefined")
-        wait(lambda: abs(window.value(ALTITUDE) - altitude) < 2, 10)
+        wait(lambda: abs(window.value(ALTITUDE) - altitude) < 2)
         near(f'the altitude at cycle {cycle}', altitude, window.value(ALTITUDE), 2)  # a tenth of a second, at up to 10 m/s
     flying = 'ahead behind craft flame ground mark scale site'
     window.value(f"location.hash = '#cycle={seen[len(seen) // 2][0]}'; undefined")

@@ -5,9 +5,9 @@ import subprocess
 import sys
 import time
 
-from judge import TOP, judge, near, scratch_folder
+from judge import TOP, judge, near, scratch_folder, slowness
 from site_of import Site, example, keys_in, started, wait
-from views import opened, see
+from views import opened, see, steady
 
 FOLDER = scratch_folder()
 
@@ -67,13 +67,14 @@ def click(window, label):
     """Clicks a button of the strip."""
     box = f"""(() => {{
         const button = [...document.querySelectorAll('#strip button')].find((each) => each.textContent === {json.dumps(label)} && each.checkVisibility());
+        if (!button) return null;
         const {{ left, right, top, bottom }} = button.getBoundingClientRect();
         return [(left + right) / 2, (top + bottom) / 2];
     }})()"""
-    window.click(*window.value(box))
+    window.click(*steady(window, box))
 
 
-def see_step(window, step, seconds=90):
+def see_step(window, step, seconds=300):
     """Waits until the strip says a step."""
     wait(lambda: step in window.value(TEXT), seconds)
     judge(f'the strip: {step}', True, step in window.value(TEXT))
@@ -110,7 +111,7 @@ def try_steps():
     window.type('4', '2')
     see_step(window, 'One 4/4 Read this.')
     judge('what was typed by hand counts', ['key 4', 'key 2'], keys_in(site.script()))
-    judge('a step without a condition waits for a click', 'Next ✕', window.value(BUTTONS))
+    judge('a step without a condition waits for a click', 'Next ✕', see(window, BUTTONS, 'Next ✕'))
     click(window, 'Next')
     see_step(window, 'That is all.')
     click(window, 'Two')
@@ -145,7 +146,7 @@ DO_STEPS = """window.doSteps = (last) => {
 step is missed."""
 
 
-def walk(window, guide, last, seconds=240):
+def walk(window, guide, last, seconds=600):
     """Chooses a guide and clicks what its steps offer, up to its last step; returns the steps and the number of clicks."""
     see(window, "document.getElementById('strip').hidden", False)
     click(window, guide)
@@ -202,9 +203,9 @@ def try_flights():
     clicks, seconds, landed = flown('Land', 'You are on the Moon')
     judge('it has landed', True, landed)
     judge('six clicks are enough', True, clicks <= 6)
-    near('seconds to the ground', 0, seconds, 60)
+    near('seconds to the ground', 0, seconds, 60 * slowness())
     clicks, seconds, _ = flown('Land with alarm 1202', 'Look at the core sets')
-    near('seconds to the cause', 0, seconds, 120)
+    near('seconds to the cause', 0, seconds, 120 * slowness())
 
 
 def try_files():

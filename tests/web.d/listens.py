@@ -7,12 +7,12 @@ import sys
 
 from dsky import Dsky
 from judge import TOP, judge
-from site_of import Site, example, free_ports, keys_in, started, wait
+from site_of import LONGEST, Site, example, free_ports, keys_in, started, wait
 
 
 def status_of(site, address, **headers):
     """Returns the status of a request for the page that reaches an address of this computer."""
-    connection = http.client.HTTPConnection(address, site.port, timeout=20)
+    connection = http.client.HTTPConnection(address, site.port, timeout=LONGEST)
     try:
         connection.putrequest('GET', '/', skip_host=True)
         for name, value in headers.items():

@@ -10,7 +10,7 @@ from agc import Console
 from agc_web.film import Films
 from agc_web.server import Server
 from agc_web.session import Session
-from judge import CONSOLE, TOP, judge, scratch_folder
+from judge import CONSOLE, TOP, judge, scratch_folder, slowness, soon
 from site_of import LONGEST, Site, example, keys_in, started, wait
 from window import Window
 
@@ -36,7 +36,7 @@ def try_eight_tabs():
         window.session = tab
         began = time.monotonic()
         judge(f'tab {number} presses a key', True, window.value(f"ask('key', {{ name: '{number}' }})"))
-        judge(f'and soon ({time.monotonic() - began:.2f} s)', True, time.monotonic() - began < 5)
+        soon('and soon', began, 5)
         wait(lambda: len(keys_in(site.script())) == number + 1)
     for number, tab in enumerate(tabs):
         window.session = tab
@@ -90,7 +90,7 @@ def try_strangers():
         site.do('play')
         judge('the news go on', True, wait(lambda: stream.message().get('time', {}).get('cycle', 0) > 1000))
     judge('each request is answered', [200] * 20, answers)
-    judge(f'and soon ({slowest:.2f} s)', True, slowest < 5)
+    judge(f'and soon ({slowest:.2f} s)', True, slowest < 5 or slowest < 5 * slowness())
     stop.set()
     attack.join(LONGEST)
     site.end()

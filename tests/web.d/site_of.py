@@ -10,7 +10,7 @@ import time
 
 from judge import TOP
 
-LONGEST = 60  # seconds that anything may take, on a slow machine too
+LONGEST = 240  # seconds that anything may take, on a slow machine too
 
 
 def example(*names):

@@ -21,7 +21,7 @@ import threading
 import time
 
 from dsky import KEYS as KEY_PACKETS, Dsky
-from judge import AGC, TOP, judge, scratch_folder
+from judge import AGC, TOP, judge, scratch_folder, slowness
 from site_of import LONGEST, Site, example, free_ports, is_running, wait
 
 FOLDER = scratch_folder()
@@ -44,7 +44,7 @@ class Tab(threading.Thread):
     def __init__(self, site, seed, stop):
         super().__init__(daemon=True)
         self.site, self.chance, self.stop, self.name = site, random.Random(seed), stop, f'tab-{seed}'
-        self.wrong = []
+        self.wrong, self.patience = [], 3 * slowness()  # what is not answered may still be done
 
     def run(self):
         stream = self.site.stream(window=self.name)
@@ -85,7 +85,7 @@ class Tab(threading.Thread):
 
     def ask(self, method, path, body=None):
         """Sends a request; a status that shows a fault of the server is kept."""
-        connection = http.client.HTTPConnection('127.0.0.1', self.site.port, timeout=3)
+        connection = http.client.HTTPConnection('127.0.0.1', self.site.port, timeout=self.patience)
         headers = {'X-Token': self.site.token, 'Origin': f'http://{self.site.host}', 'Content-Type': 'application/json'}
         try:
             connection.request(method, path, json.dumps(body) if body is not None else None, headers)
@@ -206,7 +206,7 @@ class Storm:
             self.site.process.kill()
             out, err = self.site.process.communicate()
         took = time.monotonic() - began
-        judge(f'{self.what}: it ends within {SOON} s ({took:.2f})', True, took < SOON)
+        judge(f'{self.what}: it ends within {SOON} s ({took:.2f})', True, took < SOON or took < SOON * slowness())
         is_unsaved = self.saved is not None and 'disk' in self.fault
         lines = [line for line in err.splitlines() if not line.startswith('instruments: ')]
         message = [f'agc-web: {self.saved}: '] if is_unsaved else []

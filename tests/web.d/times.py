@@ -12,8 +12,8 @@ import time
 import agc_web.worker
 from agc import Console
 from agc_web.session import Session, Unable
-from judge import CONSOLE, STUDY, judge, scratch_folder
-from site_of import Site, example, keys_in, started, wait
+from judge import CONSOLE, STUDY, judge, scratch_folder, slowness
+from site_of import LONGEST, Site, example, keys_in, started, wait
 
 FOLDER = scratch_folder()
 LONG = 10**9  # cycles: more than three hours of machine time
@@ -54,7 +54,7 @@ def try_nothing_anew():
             ('what comes', lambda: wait(lambda: len(news_of(session)['ahead']) == 12)),
         ):
             took = seconds(task)
-            judge(f'{what} takes {took:.3f} s of {run:.3f}', True, took < run / 3)
+            judge(f'{what} takes {took:.3f} s of {run:.3f}', True, took < run / 3 or took < 0.2 * slowness())
         judge('there was no second console', [], consoles)
         judge('it stands where it should', (True, ['key 4']), (console.cycle >= here, keys_in(session.script())[-1:]))
         session.close()
@@ -64,8 +64,8 @@ def try_busy():
     """A command that is answered 'the machine is busy' is never carried out; one that has begun is waited for."""
     usual, agc_web.worker.PATIENCE = agc_web.worker.PATIENCE, 0.2
     with Console(example('keys', 'rope'), program=[CONSOLE], detached=True) as console:
-        session, begun = Session(console), threading.Event()
-        busy = threading.Thread(target=lambda: session.call(lambda: (begun.set(), time.sleep(1))))
+        session, begun, over = Session(console), threading.Event(), threading.Event()
+        busy = threading.Thread(target=lambda: session.call(lambda: (begun.set(), over.wait(LONGEST))))
         busy.start()
         begun.wait()
         try:
@@ -73,10 +73,13 @@ def try_busy():
             judge('a key while the machine is busy', 'refused', 'pressed')
         except Unable as unable:
             judge('a key while the machine is busy', 'the machine is busy: this was not done', str(unable))
+        over.set()
         busy.join()
+        agc_web.worker.PATIENCE = usual
         session.step()
         judge('it is not pressed later', [], keys_in(session.script()))
-        judge('what has begun is waited for', 'done', session.call(lambda: time.sleep(0.5) or 'done'))
+        agc_web.worker.PATIENCE = 3
+        judge('what has begun is waited for', 'done', session.call(lambda: time.sleep(4) or 'done'))
         agc_web.worker.PATIENCE = usual
         session.close()
 

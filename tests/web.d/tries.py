@@ -24,7 +24,7 @@ from agc import Console, Refused
 from agc_web.server import Server
 from agc_web.session import KEYS, Session, Unable
 from dsky import KEYS as KEY_PACKETS, Dsky
-from judge import AGC, CONSOLE, TOP, attempt, depends_on_time, finish, judge, near, scratch_folder
+from judge import AGC, CONSOLE, TOP, attempt, check, depends_on_time, finish, judge, near, scratch_folder, slowness, soon
 from site_of import LONGEST, Site, example, free_ports, keys_in, started, wait
 from window import Window
 import buttons
@@ -92,7 +92,7 @@ class Page:
 
     def middle(self, selector):
         """Returns the middle of an element that is seen and not covered, as a pointer finds it."""
-        found = self.value(f"""(() => {{
+        find = f"""(() => {{
             const element = [...document.querySelectorAll({json.dumps(selector)})].find((each) => each.checkVisibility());
             if (!element) return null;
             element.scrollIntoView({{ block: 'nearest' }});
@@ -100,10 +100,17 @@ class Page:
             const [x, y] = [(box.left + box.right) / 2, (box.top + box.bottom) / 2];
             const top = document.elementFromPoint(x, y);
             return element.contains(top) ? [x, y] : null;
-        }})()""")
-        if found is None:
+        }})()"""
+        found = [None]
+
+        def is_steady():
+            """Whether it is where it was at the last look: the page may still move it."""
+            found.append(self.value(find))
+            return found[-1] is not None and found[-1] == found[-2]
+
+        if not wait(is_steady):
             raise ValueError(f'{selector} is not there to be clicked')
-        return found
+        return found[-1]
 
     def click(self, selector):
         self.window.click(*self.middle(selector))
@@ -208,7 +215,7 @@ def try_session():
     rope = example('verbs', 'rope')
     site = started(rope)
     figure('seconds until the page is served', round(site.seconds, 2))
-    judge('the page is served soon', True, site.seconds < 5)
+    judge('the page is served soon', True, site.seconds < 5 * slowness())
     page = Page(site)
     script = session_of(page, rope)
     try_film(page, rope)
@@ -432,7 +439,7 @@ def try_pro():
     script = site.script()
     judge('PRO goes down and up', ['pro down', 'pro up'] * 3, keys_in(script))
     cycles = [int(line.split(' ')[0]) for line in script.splitlines()]
-    near('how long PRO was held', held, (cycles[1] - cycles[0]) / A_SECOND, 0.6)
+    near('how long PRO was held', held, (cycles[1] - cycles[0]) / A_SECOND, 0.6 * slowness())
     site.end()
 
 
@@ -523,8 +530,8 @@ def try_breaks(page, site):
     judge('no breakpoint', True, wait(lambda: page.text('trouble').startswith('unknown name')))
     page.value("document.getElementById('break-place').value = ''; document.activeElement.blur()")
     press_and_hit(page, site, '1', 'order at KEYIN', 3)
-    judge('the order comes next', True, page.text('next').startswith('4024 KEYIN'))
-    judge('the boundary before it', True, line_of(page, '#history li', len(page.texts('#history li')) - 1).endswith('interrupt KEYRUPT1'))
+    judge('the order comes next', True, wait(lambda: page.text('next').startswith('4024 KEYIN')))
+    judge('the boundary before it', True, wait(lambda: line_of(page, '#history li', len(page.texts('#history li')) - 1).endswith('interrupt KEYRUPT1')))
     page.click('#play')
     page.run_on(5000)  # the service of the key ends
     page.pause()
@@ -859,7 +866,7 @@ def try_sockets(site):
         site.do('step')
     began = time.monotonic()
     judge('a command while browsers stall', 200, site.do('play'))
-    judge('it is done soon', True, time.monotonic() - began < 5)
+    soon('it is done soon', began, 5)
     cycles = lambda found: [each['time']['cycle'] for each in found if 'time' in each]
     goes_on = lambda found: len(cycles(found)) > 5 and cycles(found)[-1] - cycles(found)[0] > 0.5 * A_SECOND
     news = site.messages(LONGEST, goes_on)
@@ -885,7 +892,8 @@ def try_pace():
         site.do('pause')
         figure(f'at speed {speed}', f'pace {pace:.4f}, {100 * part:.1f} percent of a processor')
         if speed < 1000 or not shown:
-            near(f'the pace at {speed}', 1, pace / speed, 0.01 if speed < 1000 else 0.1)
+            tolerance = 0.01 if speed < 1000 else 0.1
+            check(f'the pace at {speed}: {pace / speed}', abs(pace / speed - 1) <= tolerance or pace / speed < 1 + tolerance and slowness() > 2)
         if speed == 1:
             judge('less than 10 percent of a processor', True, part < 0.1)
     page.close()
@@ -969,10 +977,10 @@ def try_rate():
     site = started(example('count-4', 'rope'), example('count-4', 'script'))
     site.do('speed', times=10)
     site.do('play')
-    messages = first_good(lambda: site.messages(2), lambda found: 20 <= len(found) <= 102)
+    messages = first_good(lambda: site.messages(2), lambda found: 22 <= len(found) <= 102)
     figure('messages a second', len(messages) / 2)
-    judge('at most fifty messages a second', True, 20 <= len(messages) <= 102)
-    judge('most of them have another panel', True, sum('panel' in each for each in messages) > 20)
+    judge('at most fifty messages a second', True, 22 / slowness() <= len(messages) <= 102)
+    judge('most of them have another panel', True, sum('panel' in each for each in messages) > 20 / slowness())
     site.end()
 
 
@@ -1012,7 +1020,7 @@ def try_latency():
     lit = first_good(lambda: light_times(page), lambda found: len(found) == 20 and statistics.median(found) < 50)
     figure('milliseconds from key to light', f'median {statistics.median(lit):.1f}, least {min(lit):.1f}, most {max(lit):.1f} of {len(lit)}')
     judge('each key was lit', 20, len(lit))
-    judge('a key lights within 50 milliseconds', True, statistics.median(lit) < 50)
+    judge('a key lights within 50 milliseconds', True, statistics.median(lit) < 50 or statistics.median(lit) < 50 * slowness())
     page.close()
     site.end()
 
@@ -1196,7 +1204,7 @@ def try_hangup():
         file.write('#!/bin/sh\nkill -HUP $PPID\nsleep 1\n')
     os.chmod(browser, 0o755)
     words = [os.path.join(TOP, 'agc-web'), rope, script, '--port', '0', '--save', early, '--open']
-    done = subprocess.run(words, stdout=subprocess.DEVNULL, env={**os.environ, 'BROWSER': browser + ' %s'}, timeout=20)
+    done = subprocess.run(words, stdout=subprocess.DEVNULL, env={**os.environ, 'BROWSER': browser + ' %s'}, timeout=LONGEST)
     with open(early) as file:
         judge('a hang-up while the browser is opened', (0, '5 key 4\n'), (done.returncode, file.read()))
     site = Site(['nohup', os.path.join(TOP, 'agc-web'), rope, '--port', '0'])
@@ -1236,6 +1244,7 @@ def try_lander():
     compare_flight(page, site, rope, rows)
     site.do('undo')
     settle(page)
+    wait(lambda: page.value(rows) == shown)
     judge('undo brings the craft back', (shown, end, script), (page.value(rows), page.cycle(), site.script()))
     site.do('play')
     page.run_on(TENTH)
@@ -1257,9 +1266,11 @@ def compare_flight(page, site, rope, rows):
     with replayed(rope, site.script(), page.cycle() + 1) as console:
         pulses = (console.cell('32') + 16384) % 32768 - 16384
         held = (console.cell('100') + 16384) % 32768 - 16384
+    wanted = f'{pulses * 360 / 32768:+.2f}°', f'{held * 360 / 32768:+.2f}°'
+    wait(lambda: (page.value(rows)['Angle'], page.value(rows)['Held angle']) == wanted)
     found = page.value(rows)
-    judge('the angle is that of CDUX', f'{pulses * 360 / 32768:+.2f}°', found['Angle'])
-    judge('the held angle is that of the machine', f'{held * 360 / 32768:+.2f}°', found['Held angle'])
+    judge('the angle is that of CDUX', wanted[0], found['Angle'])
+    judge('the held angle is that of the machine', wanted[1], found['Held angle'])
 
 
 def try_late_view():
@@ -1308,14 +1319,16 @@ def try_names_and_pictures():
     page.type('r')
     judge('time stops at it', 'at breakpoint: order at KEYIN', page.state('at breakpoint: order at KEYIN'))
     coming = ['4100 KEYIN', '4101 KEYIN +1', '4102 KEYIN +2', '4103 KEYIN +3', '4104 KEYIN +4', '4127 KEYS +18', '4235 RESET']
-    wait(lambda: len(page.texts('#ahead li')) == 12)
-    shown = [re.sub('  .*', '', line_of(page, '#ahead li', i).split(' ', 1)[1]) for i in range(7)]
-    judge('the orders that come, by name', coming, shown)
+    shown = lambda: [re.sub('  .*', '', line_of(page, '#ahead li', i).split(' ', 1)[1]) for i in range(7)]
+    wait(lambda: len(page.texts('#ahead li')) == 12 and shown() == coming)
+    judge('the orders that come, by name', coming, shown())
     picture(page, 'web')
     page.click('#tables-tab')
     with replayed(example('verbs', 'rope'), site.script(), page.cycle()) as console:
         tables = console.tables('0,100,2,0,130,0,140')
-    judge("the Executive's tables", tables, page.value("document.getElementById('tables').textContent").splitlines())
+    shown_tables = lambda: page.value("document.getElementById('tables').textContent").splitlines()
+    wait(lambda: shown_tables() == tables)
+    judge("the Executive's tables", tables, shown_tables())
     offered = page.value("[...document.querySelectorAll('#names option')].map((each) => each.value)")
     judge('names are offered', True, {'KEYIN', 'IDLE', 'DIGITS'} <= set(offered))
     page.close()
@@ -1333,7 +1346,9 @@ def try_stop():
         judge('where it stops', (console.cycle, console.stop), (page.cycle(), 'DivisionUndefined'))
     with Console(rope, program=[CONSOLE]) as console:
         way = [line.split(' | ')[0] for line in console.step(100)]
-    judge('the way there', way, [line_of(page, '#history li', i) for i in range(len(page.texts('#history li')))])
+    shown = lambda: [line_of(page, '#history li', i) for i in range(len(page.texts('#history li')))]
+    wait(lambda: shown() == way)
+    judge('the way there', way, shown())
     page.value("dispatchEvent(new Event('blur')); undefined")
     time.sleep(0.5)
     judge('a window that loses the keyboard and holds nothing lets nothing up', '', page.text('trouble'))

@@ -248,15 +248,28 @@ def begin_flight(site, window):
     site.do('play')
     for key in 'VERB 3 7 ENTR 6 4 ENTR'.split():
         site.do('key', name=key)
-    judge('NOUN 61 waits for consent', True, wait(lambda: window.value("document.getElementById('live-panel').textContent.includes('NOUN 61')"), 120))
+    judge('NOUN 61 waits for consent', True, wait(lambda: window.value("document.getElementById('live-panel').textContent.includes('NOUN 61')"), 300))
     site.do('pro', down=True, window='w')
     site.do('pro', down=False, window='w')
 
 
+def steady(window, script):
+    """Waits until a script gives the same place twice, one after the other: the page may still move what is there. Returns it."""
+    found = [None]
+
+    def is_steady():
+        found.append(window.value(script))
+        return found[-1] is not None and found[-1] == found[-2]
+
+    wait(is_steady)
+    return found[-1]
+
+
 def click(window, label, selector='.controls button'):
     """Clicks a button, of an instrument if no other is meant."""
-    window.click(*window.value(f"""(() => {{
+    window.click(*steady(window, f"""(() => {{
         const button = [...document.querySelectorAll('{selector}')].find((each) => each.textContent === {json.dumps(label)});
+        if (!button) return null;
         button.scrollIntoView({{ block: 'center' }});
         const box = button.getBoundingClientRect();
         return [(box.left + box.right) / 2, (box.top + box.bottom) / 2];
@@ -286,7 +299,7 @@ def try_landing():
     site.do('speed', times=1000)
     site.do('play')
     outcome = "document.querySelector('.outcome').textContent"
-    wait(lambda: window.value(outcome), 120)
+    wait(lambda: window.value(outcome), 600)
     judge('the end', True, window.value(outcome).startswith('Landed: ') and window.value(outcome).endswith(' m from the site'))
     highest = f"[...{SHOWN}.querySelectorAll('text.scale')].map((each) => each.textContent).filter((each) => / m$/.test(each)).pop()"
     judge('close to the ground', '20 m', see(window, highest, '20 m'))
@@ -300,7 +313,7 @@ def try_landing():
 def see_flight(site, window):
     """Stops at 30 m: the picture with which README.md begins."""
     altitude = lambda: float(dict(site.state()['instruments'][0]['rows'])['Altitude'].split(' ')[0])
-    wait(lambda: altitude() < 31, 240)
+    wait(lambda: altitude() < 31, 600)
     site.do('pause')
     while altitude() < 21:  # we looked too late
         site.do('go', cycle=site.state()['time']['cycle'] - 40000, sure=True)

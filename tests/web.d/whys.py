@@ -216,13 +216,13 @@ def explain(site, window):
     judge('the alarm comes', True, wait(lambda: window.value('now.hit') != '', 300))
     site.do('unbreak', place='SETALARM')
     site.do('play')
-    judge('an alarm', True, wait(lambda: window.value("isLit('PROG')"), 60))
+    judge('an alarm', True, wait(lambda: window.value("isLit('PROG')"), 300))
     site.do('pause')
     script = site.script()
     judge('the page offers the reason', True, see(window, "document.getElementById('alarm').hidden", False) is False)
     click(window, 'Why?', '#alarm button')
     text = "document.getElementById('why-text').textContent"
-    wait(lambda: 'called' in window.value(text), 120)
+    wait(lambda: 'called' in window.value(text), 300)
     found = re.fullmatch(r'Alarm 1201: no VAC area was free\. READACCS \+\d+ called FINDVAC at [67]\.\d+ s, cycle ([\d,]+)\. Time stands before this order\.', window.value(text))
     judge('the cause', True, found is not None)
     cycle = int(found.group(1).replace(',', '')) if found else 0
@@ -231,8 +231,9 @@ def explain(site, window):
     judge('what came before it is kept', None, first_difference(before, kept))
     judge('what the craft sent since is dropped', False, any(' raise ' in line for line in site.script().splitlines()[len(kept):]))
     sets = [line for line in site.state()['tables'] if line.startswith('SET ')]
-    rows = window.value("[...document.querySelectorAll('#why-sets tr')].map((row) => row.children[2].textContent)")
-    judge('a row for each core set', [line.endswith('FREE') for line in sets], [row == 'free' for row in rows])
+    rows = "[...document.querySelectorAll('#why-sets tr')].map((row) => row.children[2].textContent === 'free')"
+    wanted = [line.endswith('FREE') for line in sets]
+    judge('a row for each core set', wanted, see(window, rows, wanted))
     judge('the tab', 'why-tab', see(window, "document.querySelector('#tabs [aria-selected=true]').id", 'why-tab'))
     judge('the pulses of the second before', True, wait(lambda: window.value("document.getElementById('why-stolen').textContent").startswith('In the second before, pulses took ')))
     counted = sum(' pulse ' in line and cycle - 256000 / 3 <= int(line.split()[0]) < cycle for line in script.splitlines())

@@ -9,7 +9,7 @@ sys.path.append(os.path.join(os.path.dirname(os.path.abspath(__file__)), '..', '
 import browser  # noqa: E402
 
 browser.FLAGS.append('--host-resolver-rules=MAP rebound.test 127.0.0.1, MAP * ~NOTFOUND, EXCLUDE 127.0.0.1')
-browser.LONGEST = 90  # seconds: other judges and proofs may run
+browser.LONGEST = 300  # seconds: other judges and proofs may run
 CODES = {'Enter': ('Enter', 13), 'Backspace': ('Backspace', 8), 'Tab': ('Tab', 9), 'Escape': ('Escape', 27), 'Space': (' ', 32)}
 TEXTS = {'Enter': '\r', 'Space': ' '}
 
