@@ -1,7 +1,7 @@
 """Tries of weave with pages in the listings' language.
 
 Of a page NAME.agc, NAME.words has each place with its word. Each row of `faults` is put where `faulty` has a mark; the
-row's last line is to be refused.
+row's last line is to be refused. Sums, listings, sources with includes and interpretive code have tries of their own.
 """
 
 import re
@@ -57,10 +57,166 @@ def try_faults(scratch):
         judge(f"the line `{row}`", (2, b"", mark + len(lines)), (status, rope, int(first[1]) if first else message))
 
 
+def run(*words):
+    done = subprocess.run([STUDY, *words], capture_output=True)
+    return done.returncode, done.stdout, done.stderr.decode("latin-1")
+
+
+def bank_sum(words, bank):
+    """The ones' complement sum of a bank's words."""
+    total = 0
+    for place, word in words.items():
+        if place.startswith(f"{bank:02o},"):
+            total += int(word, 8)
+            total = total - 0o77777 if total > 0o77777 else total
+    return total
+
+
+# Bank 05 has room for the three words just behind offset 1774, bank 06 has none behind 1775.
+SUMMED = """        SETLOC  4000
+        OCT     1
+        OCT     77776
+        BANK    01
+        OCT     12345
+        SETLOC  23774
+        OCT     70000
+        SETLOC  25775
+        OCT     3
+        BANK    43
+        OCT     40000
+"""
+SELVES = {
+    "02,4002": "04002", "02,4003": "04003", "01,2001": "02001", "01,2002": "02002", "05,3775": "03775", "05,3776": "03776",
+    "43,2001": "02001", "43,2002": "02002",
+}
+
+
+def try_sums(scratch):
+    page = Path(scratch, "summed.agc")
+    page.write_text(SUMMED)
+    plain = words_of(run("weave", page)[1])
+    for form in ("classic", "parity"):
+        status, rope, message = run("weave", page, "--sums", "--form", form)
+        full = "agc-study: bank 06 has no room for a sum: three words\n"
+        judge(f"--sums, {form}: status and message", (0, full), (status, message))
+        if form == "parity":
+            odd = [at for at in range(0, len(rope), 2) if rope[at:at + 2] != b"\0\0"]
+            wrong = [at for at in odd if bin(int.from_bytes(rope[at:at + 2], "big")).count("1") % 2 == 0]
+            judge("--sums, parity: words with wrong parity", [], wrong)
+            continue
+        words = words_of(rope)
+        for bank in (1, 2, 5, 0o43):
+            judge(f"the sum of bank {bank:02o}", bank, bank_sum(words, bank))
+        judge("TC SELF", SELVES, {place: words.get(place) for place in SELVES})
+        checks = {"02,4004", "01,2003", "05,3777", "43,2003"}
+        judge("the other words", plain, {at: word for at, word in words.items() if at not in SELVES and at not in checks})
+
+
+LISTED = b"""# caf\351
+X1      EQUALS  46
+START   CAF     TEN     # begin
+        2CADR   START
+
+TEN     OCT     12
+        OCT     0
+"""
+LISTING = """              # page.agc 1: # caf\\351
+              # page.agc 2: X1      EQUALS  46
+02,4000 34003 # page.agc 3: START   CAF     TEN     # begin
+02,4001 04000 # page.agc 4:         2CADR   START
+02,4002 04000
+              # page.agc 5:
+02,4003 00012 # page.agc 6: TEN     OCT     12
+02,4004 00000 # page.agc 7:         OCT     0
+# names
+# E0,0046 X1
+# 02,4000 START
+# 02,4003 TEN
+# banks
+# 02: 5 of 1024 words, the last at 02,4004
+"""
+
+
+def try_listing(scratch):
+    page, new = Path(scratch, "page.agc"), Path(scratch, "listing")
+    page.write_bytes(LISTED)
+    status, rope, message = run("weave", page, "--write-listing", new)
+    judge("--write-listing, status and message", (0, ""), (status, message))
+    judge("--write-listing, the rope", run("weave", page)[1], rope)
+    judge("the listing", LISTING, new.read_text() if new.exists() else None)
+    judge("it weaves to the rope", (0, rope, ""), run("weave", new))
+    judge("check --listing takes it", 0, run("check", "--listing", new)[0])
+    status, rope, message = run("weave", page, "--write-listing", new)
+    judge("an existing file is kept", (2, b"", LISTING), (status, rope, new.read_text()))
+    status, rope, message = run("weave", page, "--sums", "--write-listing", new, "--force")
+    judge("--sums and a listing", (0, ""), (status, message))
+    judge("it weaves to the rope with its sums", (0, rope, ""), run("weave", new))
+    status, rope, message = run("weave", page, "--write-listing", page, "--force")
+    judge("never the source", (2, b"", LISTED), (status, rope, page.read_bytes()))
+    for each in sorted(HERE.glob("*.agc")):
+        status, rope, message = run("weave", each, "--write-listing", new, "--force")
+        judge(f"{each.name}: its listing weaves to its rope", (0, rope, ""), run("weave", new))
+
+
+def try_compared(scratch):
+    folder = Path(scratch, "folder")
+    folder.mkdir()
+    Path(folder, "MAIN.agc").write_text("$TAGS.agc\nSTART   CA      TEN\n$REST.agc\n")
+    Path(folder, "TAGS.agc").write_text("TIME    EQUALS  0100\n")
+    Path(folder, "REST.agc").write_text("        TS      TIME\nTEN     OCT     12\n")
+    whole = Path(scratch, "whole.agc")
+    whole.write_text("START   CA      TEN\n        TS      0100\nTEN     OCT     13\n")
+    wanted = """02,4002: 00012 TC 0012 (REST.agc line 2) | 00013 TC 0013 (line 3)
+bank 02: 1 words differ
+"""
+    done = run("compare", "--words", Path(folder, "MAIN.agc"), whole, "--source")
+    judge("compare --words, a source with includes", (1, wanted.encode(), ""), done)
+    Path(folder, "REST.agc").write_text("        TS      TIMER\nTEN     OCT     12\n")
+    wanted = "agc-study: REST.agc line 1: no line has this name\n"
+    done = run("compare", "--words", Path(folder, "MAIN.agc"), whole, "--source")
+    judge("a faulty one", (2, b"", wanted), done)
+
+
+# Each word by the rules, by hand: a pair is 77776 less its code, or less 200 times the right code plus 1; an address and a
+# shift have 1 added, `,2` and a store behind STADR are complemented.
+SPOKEN = """04,2000 45345 DLOAD DSU
+04,2001 00017 16
+04,2002 01401 1400
+04,2003 77661 SL
+04,2004 20206 5
+04,2005 77614 SET
+04,2006 00065 5
+04,2007 77773 VLOAD*
+04,2010 76376 1400,2
+04,2011 77650 GOTO
+04,2012 10000 04,2000
+04,2013 77626 STADR
+04,2014 77676 STORE 100
+04,2015 77776 EXIT
+"""
+
+
+def try_interpretive(scratch):
+    lines = Path(scratch, "spoken")
+    lines.write_text(SPOKEN)
+    rope = Path(scratch, "spoken.rope")
+    rope.write_bytes(run("weave", lines)[1])
+    judge("list --interpretive", (0, SPOKEN.encode(), ""), run("list", rope, "--interpretive", "04,2000-04,2015"))
+    page = Path(scratch, "spoken.agc")
+    spoken = [line.split(" ", 2)[2] for line in SPOKEN.splitlines()]
+    page.write_text("        BANK    04\n" + "".join(f"{' ' * (24 if word[0].isdigit() else 16)}{word}\n" for word in spoken))
+    judge("what it prints is a source of these words", (0, rope.read_bytes(), ""), run("weave", page))
+
+
 def main():
+    scratch = scratch_folder()
     for page in sorted(HERE.glob("*.agc")):
         try_page(page)
-    try_faults(scratch_folder())
+    try_faults(scratch)
+    try_sums(scratch)
+    try_listing(scratch)
+    try_compared(scratch)
+    try_interpretive(scratch)
     shown = subprocess.run([Path(TOP, "tests/pages"), Path(TOP, "examples/waitlist/README.md")], capture_output=True, text=True)
     judge("the commands of the example's page", (0, ""), (shown.returncode, shown.stderr))
 

@@ -6,12 +6,15 @@ ghost use Rattle.agc_analysis.specs.Ended.{EndsWith};
 ghost use Rattle.agc_analysis.specs.Listed.{IsListRefused, IsListWritten};
 ghost use Rattle.agc_analysis.specs.Fault.{IsReported};
 
+use crate::fault::FAULTY;
 use crate::inputs::read_symbols;
+use crate::interpretive_list::{Words, interpretive_list, words_named};
 use crate::rope_bytes::special_list;
 use crate::ropes::text_of_rope;
 use crate::streams::Streams;
+use agc_cli::exit_usage;
 use agc_io::{OK, ROPE_BYTES, status_of, write_in_full};
-use agc_study_args::{ListArgs, open_file};
+use agc_study_args::{ListArgs, NAME, open_file};
 use agc_trace::LineForm;
 use std::alloc::Global;
 use std::io::{Read, Write};
@@ -33,15 +36,39 @@ where
         Err(status) => return status,
     };
     let form = LineForm::new(rt.alloc(), names, None);
+    let words = match words_named(rt.alloc(), &form.names, args.interpretive.as_slice()) {
+        Ok(words) => words,
+        Err(fault) => return exit_usage(NAME, fault, FAULTY, &mut io.out, &mut io.err),
+    };
     let mut rope = open_file(rt, &args.rope, ROPE_BYTES);
     let is_special = args.ignores_parity || args.shows_zeros || args.first_bank.is_some();
-    let status = if is_special {
+    let status = if !words.is_empty() {
+        write_interpretive(rt.alloc(), args, &form, words.as_slice(), &mut rope, io)
+    } else if is_special {
         write_special(rt.alloc(), args, &form, &mut rope, io)
     } else {
         write_list(rt.alloc(), args, &form, &mut rope, io)
     };
     rope.remark_fault(rt.alloc(), &mut io.remarks);
     status
+}
+
+/// Lists some words of a rope as interpretive code.
+fn write_interpretive<R: Read, W: Write, E: Write, N: Write, P>(
+    alloc: Global,
+    args: &ListArgs,
+    form: &LineForm,
+    words: &[Words],
+    rope: &mut R,
+    io: &mut Streams<W, E, N, P>,
+) -> u8
+    ensures ended { EndsWith W.contents E.contents result io.old io.new }
+    ensures faulty { result ≢ 1 }
+{
+    match interpretive_list(alloc, args, &form.names, words, rope) {
+        Ok(text) => status_of(OK, write_in_full(&mut io.out, text.as_bytes())),
+        Err(fault) => fault.report_to(&mut io.err),
+    }
 }
 
 /// Lists a rope whatever its parity, some modules, or all words, and marks the words with wrong parity.

@@ -8,17 +8,19 @@ ghost use Rattle.agc_analysis.specs.Fault.{IsReported};
 
 use crate::fault::{AnalysisFault, FAULTY};
 use crate::included::{expanded_source, in_files, report_include};
+use crate::new_files::{check_new_paths, check_paths_beside, write_new_file};
 use crate::ropes::{Woven, misnamed_line, weave_text};
 use crate::source_faults::{write_expanded_faults, write_other_faults};
 use crate::streams::Streams;
-use crate::symbol_output::{check_names_beside, check_names_path, write_names};
-use agc_asm::{AssemblyFault, Misnamed, assemble, first_misnamed, line_remarks};
-use agc_cli::{ArgsFault, exit_usage};
+use agc_asm::{AssemblyFault, Misnamed, assemble, first_misnamed, line_remarks, source_symbols};
+use agc_cli::exit_usage;
 use agc_include::{Expanded, has_include};
 use agc_io::{OK, ReadError, TEXT_BYTES, WRITE_FAILED, read_limited, status_of, write_in_full};
+use agc_store::RopeForm;
 use agc_study_args::{NAME, WeaveArgs, open_file, remark_on_file};
+use agc_woven::{ListingFault, SumsFault, listing_of, with_sums};
 use std::alloc::Global;
-use std::io::{Read, Write};
+use std::io::{self, ErrorKind, Read, Write};
 use std::rt::Files;
 
 /// Assembles a text file and writes its symbols. A path of the symbols that may not be written is a command-line error.
@@ -33,7 +35,7 @@ where
     ensures ended { EndsWith W.contents E.contents result io.old io.new }
     ensures faulty { result ≢ 1 }
 {
-    if let Err(fault) = check_path(rt, args) {
+    if let Err(fault) = check_new_paths(rt, args) {
         return exit_usage(NAME, fault, FAULTY, &mut io.out, &mut io.err);
     }
     let mut text = open_file(rt, &args.text, TEXT_BYTES);
@@ -58,7 +60,7 @@ where
     ensures ended { EndsWith W.contents E.contents result io.old io.new }
     ensures faulty { result ≢ 1 }
 {
-    if has_include(source.as_slice()) {
+    if has_include(source.as_slice()) || args.adds_sums || args.write_listing.is_some() {
         return write_included(rt, args, source, io);
     }
     let mut text = source.as_slice();
@@ -70,7 +72,7 @@ where
     status
 }
 
-/// Assembles a source that includes files.
+/// Assembles a source that includes files, or whose rope gets sums or a listing.
 fn write_included<R, W: Write, E: Write, N: Write, P>(
     rt: &R,
     args: &WeaveArgs,
@@ -100,7 +102,7 @@ where
     ensures ended { EndsWith W.contents E.contents result io.old io.new }
     ensures faulty { result ≢ 1 }
 {
-    if let Err(fault) = check_names_beside(rt, args, source) {
+    if let Err(fault) = check_paths_beside(rt, args, source) {
         return exit_usage(NAME, fault, FAULTY, &mut io.out, &mut io.err);
     }
     let alloc = rt.alloc();
@@ -111,11 +113,121 @@ where
             return status_of(FAULTY, written);
         }
     };
-    if !has_written_names(rt, args, source.text(), &mut io.remarks) {
+    match finished_rope(alloc, args, source, bytes) {
+        Ok(finished) => write_finished(rt, args, source, &finished, io),
+        Err(why) => report_why(why, &mut io.err),
+    }
+}
+
+/// Reports why there is no rope, and returns the exit status.
+fn report_why<E: Write>(why: &str, err: &mut E) -> u8
+    ensures { (result ≡ 2) ⊎ (result ≡ 3) }
+{
+    status_of(FAULTY, writeln!(err, "agc-study: {why}"))
+}
+
+/// The rope of an expanded source, with its sums and its listing if they are wanted.
+#[derive(Drop)]
+struct FinishedRope {
+    file: Vec<u8>,
+    listing: Option<String>,
+    /// The banks that have no room for a sum.
+    full: Vec<u8>,
+}
+
+/// Adds the sums to a rope, and makes its listing.
+fn finished_rope(
+    alloc: Global,
+    args: &WeaveArgs,
+    source: &Expanded,
+    bytes: Vec<u8>,
+) -> Result<FinishedRope, &'static str> {
+    let (file, full) = if args.adds_sums {
+        summed_rope(alloc, args.form, bytes)?
+    } else {
+        (bytes, Vec::new(alloc))
+    };
+    let listing = if args.write_listing.is_some() {
+        match listing_of(alloc, args.form, source, file.as_slice()) {
+            Ok(text) => Some(text),
+            Err(ListingFault::Source(_)) => return Err("memory"),
+            Err(ListingFault::OtherRope) => {
+                return Err("the listing does not weave to this rope: report it, please");
+            }
+        }
+    } else {
+        None
+    };
+    Ok(FinishedRope {
+        file,
+        listing,
+        full,
+    })
+}
+
+/// Adds the sums to a rope, and returns the banks without room too.
+fn summed_rope(
+    alloc: Global,
+    form: RopeForm,
+    bytes: Vec<u8>,
+) -> Result<(Vec<u8>, Vec<u8>), &'static str> {
+    if bytes.len() % 2 == 1 {
+        return Err("memory");
+    }
+    match with_sums(alloc, form, bytes.as_slice()) {
+        Ok(summed) => Ok((summed.file, summed.full)),
+        Err(SumsFault::Memory) => Err("memory"),
+        Err(SumsFault::WrongSum) => Err("a sum came out wrong: report it, please"),
+    }
+}
+
+/// Writes the symbols and the listing of an expanded source, and then its rope.
+fn write_finished<R, W: Write, E: Write, N: Write, P>(
+    rt: &R,
+    args: &WeaveArgs,
+    source: &Expanded,
+    finished: &FinishedRope,
+    io: &mut Streams<W, E, N, P>,
+) -> u8
+where
+    R: Files + AllocGlobal,
+    ensures ended { EndsWith W.contents E.contents result io.old io.new }
+    ensures faulty { result ≢ 1 }
+{
+    if !has_written_names(rt, args, source.text(), &mut io.remarks)
+        || !has_written_listing(rt, args, finished, &mut io.remarks)
+    {
         return WRITE_FAILED;
     }
-    remark_in_files(alloc, source, &mut io.remarks);
-    status_of(OK, write_in_full(&mut io.out, bytes.as_slice()))
+    remark_in_files(rt.alloc(), source, &mut io.remarks);
+    remark_full(finished.full.as_slice(), &mut io.remarks);
+    status_of(OK, write_in_full(&mut io.out, finished.file.as_slice()))
+}
+
+/// Names the banks without room for a sum.
+fn remark_full<N: Write>(full: &[u8], remarks: &mut N) {
+    for bank in full {
+        let _written = writeln!(
+            remarks,
+            "agc-study: bank {bank:02o} has no room for a sum: three words"
+        );
+    }
+}
+
+/// Writes the listing, if there is one. If that fails, a remark reports why.
+fn has_written_listing<R, N: Write>(
+    rt: &R,
+    args: &WeaveArgs,
+    finished: &FinishedRope,
+    remarks: &mut N,
+) -> bool
+where
+    R: Files + AllocGlobal,
+{
+    match (&args.write_listing, &finished.listing) {
+        (Some(path), Some(listing)) => is_written(rt, path.as_str(), listing.as_bytes(), remarks),
+        _ => true,
+    }
 }
 
 /// Writes the remarks on the lines of an expanded source.
@@ -130,17 +242,6 @@ fn remark_in_files<N: Write>(alloc: Global, source: &Expanded, remarks: &mut N) 
     }
     if let Ok(text) = in_files(alloc, source, lines.as_str()) {
         let _written = remarks.write_all(text.as_bytes());
-    }
-}
-
-/// Checks the path of `--write-names`, if there is one.
-fn check_path<R>(rt: &R, args: &WeaveArgs) -> Result<(), ArgsFault>
-where
-    R: Files + AllocGlobal,
-{
-    match &args.write_names {
-        Some(path) => check_names_path(rt, args, path.as_str()),
-        None => Ok(()),
     }
 }
 
@@ -204,10 +305,25 @@ where
     let Some(path) = &args.write_names else {
         return true;
     };
-    match write_names(rt, path.as_str(), source) {
+    match source_symbols(rt.alloc(), source) {
+        Ok(names) => is_written(rt, path.as_str(), names.as_slice(), remarks),
+        Err(_) => {
+            let reason = io::Error::from(ErrorKind::OutOfMemory);
+            remark_on_file(rt.alloc(), path.as_str(), &reason, remarks);
+            false
+        }
+    }
+}
+
+/// Writes a file beside the rope. If that fails, a remark reports why.
+fn is_written<R, N: Write>(rt: &R, path: &str, bytes: &[u8], remarks: &mut N) -> bool
+where
+    R: Files + AllocGlobal,
+{
+    match write_new_file(rt, path, bytes) {
         Ok(()) => true,
         Err(reason) => {
-            remark_on_file(rt.alloc(), path.as_str(), &reason, remarks);
+            remark_on_file(rt.alloc(), path, &reason, remarks);
             false
         }
     }

@@ -1,23 +1,29 @@
 //! Runs `compare --words`: writes the words of two ropes or sources that differ.
-ghost use Rattle.std.specs.Prelude.{◌≡◌};
+ghost use Rattle.std.specs.Prelude.{◌≡◌, ◌⊎◌};
 ghost use Rattle.agc_analysis.specs.Ended.{EndsWith};
 
-use crate::fault::AnalysisFault;
+use crate::fault::{AnalysisFault, FAULTY};
+use crate::included::{expanded_source, report_include};
 use crate::ropes::weave_text;
+use crate::source_faults::{push_line, write_expanded_faults};
 use crate::streams::Streams;
-use agc_asm::word_lines;
-use agc_io::{OK, ROPE_BYTES, TEXT_BYTES, status_of, write_in_full};
+use agc_asm::{AssemblyFault, assemble, word_lines};
+use agc_include::{ExpandError, Expanded, has_include};
+use agc_io::{OK, ROPE_BYTES, ReadError, TEXT_BYTES, read_limited, status_of, write_in_full};
 use agc_load::LoadFault;
 use agc_store::{Rope, RopeForm, Store};
 use agc_study_args::{
     LinedRope, RopeRead, WordsArgs, open_file, read_any_rope, text_of_words_apart,
 };
-use std::alloc::Global;
+use std::alloc::{AllocError, Global};
 use std::io::{Read, Write};
 use std::rt::Files;
 
 /// The exit status if words differ.
 const APART: u8 = 1;
+
+/// Out of memory.
+const NO_MEMORY: AnalysisFault = AnalysisFault::Refused(LoadFault::Memory);
 
 /// Compares the words of two ropes or sources and writes those that differ.
 pub fn run_words<R, W: Write, E: Write, N: Write, P>(
@@ -31,14 +37,14 @@ where
 {
     let mut rope = open_file(rt, &args.rope, most_bytes(args));
     let mut other = open_file(rt, &args.other, most_bytes(args));
-    let status = match words_text(rt.alloc(), args, &mut rope, &mut other) {
+    let status = match words_text(rt, args, &mut rope, &mut other) {
         Ok(ComparedWords { text, wrong }) => {
             rope.remark_wrong(rt.alloc(), wrong.0, &mut io.remarks);
             other.remark_wrong(rt.alloc(), wrong.1, &mut io.remarks);
             let status = if text.is_empty() { OK } else { APART };
             status_of(status, write_in_full(&mut io.out, text.as_bytes()))
         }
-        Err(fault) => fault.report_to(&mut io.err),
+        Err(fault) => report_side(rt.alloc(), fault, &mut io.err),
     };
     rope.remark_fault(rt.alloc(), &mut io.remarks);
     other.remark_fault(rt.alloc(), &mut io.remarks);
@@ -70,59 +76,159 @@ struct Side {
     wrong: usize,
 }
 
+/// Why one of two files has no words.
+#[derive(Drop)]
+enum SideFault {
+    /// A fault that a single file has too.
+    File(AnalysisFault),
+    /// A faulty include of a source.
+    Include(ExpandError),
+    /// A source with includes does not assemble.
+    Source(Expanded, AssemblyFault),
+}
+
+impl From<AnalysisFault> for SideFault {
+    fn from(fault: AnalysisFault) -> SideFault {
+        SideFault::File(fault)
+    }
+}
+
+/// Reports why one of two files has no words, and returns the exit status.
+fn report_side<E: Write>(alloc: Global, fault: SideFault, err: &mut E) -> u8
+    ensures { (result ≡ 2) ⊎ (result ≡ 3) }
+{
+    match fault {
+        SideFault::File(fault) => fault.report_to(err),
+        SideFault::Include(fault) => report_include(fault, err),
+        SideFault::Source(source, fault) => {
+            status_of(FAULTY, write_expanded_faults(alloc, &source, fault, err))
+        }
+    }
+}
+
 /// Returns the text of the words that differ in two files.
-fn words_text<R: Read, S: Read>(
-    alloc: Global,
+fn words_text<F, R: Read, S: Read>(
+    rt: &F,
     args: &WordsArgs,
     rope: &mut R,
     other: &mut S,
-) -> Result<ComparedWords, AnalysisFault> {
-    let first = read_side(alloc, args, args.form, rope)?;
-    let second = match read_side(alloc, args, args.other_form, other) {
+) -> Result<ComparedWords, SideFault>
+where
+    F: Files + AllocGlobal,
+{
+    let first = read_side(rt, args, args.form, args.rope.as_str(), rope)?;
+    let second = match read_side(rt, args, args.other_form, args.other.as_str(), other) {
         Ok(read) => read,
-        Err(fault) => return Err(fault.of_second()),
+        Err(SideFault::File(fault)) => return Err(SideFault::File(fault.of_second())),
+        Err(fault) => return Err(fault),
     };
-    match text_of_words_apart(alloc, &first.rope, &second.rope) {
+    match text_of_words_apart(rt.alloc(), &first.rope, &second.rope) {
         Ok(text) => Ok(ComparedWords {
             text,
             wrong: (first.wrong, second.wrong),
         }),
-        Err(_) => Err(AnalysisFault::Refused(LoadFault::Memory)),
+        Err(_) => Err(SideFault::File(NO_MEMORY)),
     }
 }
 
-/// Reads a rope file, or assembles a source.
-fn read_side<R: Read>(
-    alloc: Global,
+/// Reads a rope file, or assembles the source at a path.
+fn read_side<F, R: Read>(
+    rt: &F,
     args: &WordsArgs,
     form: RopeForm,
+    path: &str,
     reader: &mut R,
-) -> Result<Side, AnalysisFault> {
+) -> Result<Side, SideFault>
+where
+    F: Files + AllocGlobal,
+{
+    let alloc = rt.alloc();
     if args.are_sources {
-        return read_source(alloc, reader);
+        return read_source(rt, path, reader);
     }
-    let RopeRead { rope, wrong } = read_any_rope(alloc, form, args.ignores_parity, reader)?;
+    let RopeRead { rope, wrong } = match read_any_rope(alloc, form, args.ignores_parity, reader) {
+        Ok(read) => read,
+        Err(fault) => return Err(SideFault::File(AnalysisFault::Refused(fault))),
+    };
     Ok(Side {
         rope: LinedRope {
             store: Store::new(rope),
             lines: Vec::new(alloc),
+            line_names: Vec::new(alloc),
         },
         wrong: wrong.len(),
     })
 }
 
-/// Assembles a source.
-fn read_source<R: Read>(alloc: Global, reader: &mut R) -> Result<Side, AnalysisFault> {
-    let woven = weave_text(alloc, RopeForm::Classic, reader)?;
-    let lines = match word_lines(alloc, woven.text.as_slice()) {
-        Ok(lines) => lines,
-        Err(fault) => return Err(AnalysisFault::Text(fault)),
+/// Assembles the source at a path, with the files that it includes.
+fn read_source<F, R: Read>(rt: &F, path: &str, reader: &mut R) -> Result<Side, SideFault>
+where
+    F: Files + AllocGlobal,
+{
+    let alloc = rt.alloc();
+    let bytes = match read_limited(alloc, reader, TEXT_BYTES) {
+        Ok(bytes) => bytes,
+        Err(ReadError::CannotRead(_)) => return Err(SideFault::File(AnalysisFault::CannotReadText)),
+        Err(ReadError::Memory) => return Err(SideFault::File(NO_MEMORY)),
     };
-    match Rope::read_as(alloc, RopeForm::Classic, woven.bytes.as_slice()) {
+    if !has_include(bytes.as_slice()) {
+        let mut text = bytes.as_slice();
+        let woven = weave_text(alloc, RopeForm::Classic, &mut text)?;
+        let lines = word_lines(alloc, bytes.as_slice()).map_err(|fault| AnalysisFault::Text(
+            fault,
+        ))?;
+        return Ok(lined_side(alloc, woven.bytes.as_slice(), lines, Vec::new(alloc))?);
+    }
+    match expanded_source(rt, path, bytes) {
+        Ok(source) => read_expanded(alloc, source),
+        Err(fault) => Err(SideFault::Include(fault)),
+    }
+}
+
+/// Assembles a source with includes.
+fn read_expanded(alloc: Global, source: Expanded) -> Result<Side, SideFault> {
+    let file = match assemble(alloc, RopeForm::Classic, source.text()) {
+        Ok(file) => file,
+        Err(fault) => return Err(SideFault::Source(source, fault)),
+    };
+    let lines = match word_lines(alloc, source.text()) {
+        Ok(lines) => lines,
+        Err(fault) => return Err(SideFault::Source(source, fault)),
+    };
+    let Ok(names) = line_names(alloc, &source) else {
+        return Err(SideFault::File(NO_MEMORY));
+    };
+    Ok(lined_side(alloc, file.as_slice(), lines, names)?)
+}
+
+/// Returns the file and the number of each line of a source.
+fn line_names(alloc: Global, source: &Expanded) -> Result<Vec<String>, AllocError> {
+    let mut names = Vec::new(alloc);
+    for number in 1..u64::MAX {
+        let number = number as usize;
+        if source.origin(number).is_none() {
+            break;
+        }
+        let mut name = String::new(alloc);
+        push_line(&mut name, Some(source), number)?;
+        names.push(name)?;
+    }
+    Ok(names)
+}
+
+/// Returns the words of a rope that was assembled, with their lines.
+fn lined_side(
+    alloc: Global,
+    file: &[u8],
+    lines: Vec<usize>,
+    line_names: Vec<String>,
+) -> Result<Side, AnalysisFault> {
+    match Rope::read_as(alloc, RopeForm::Classic, file) {
         Ok(rope) => Ok(Side {
             rope: LinedRope {
                 store: Store::new(rope),
                 lines,
+                line_names,
             },
             wrong: 0,
         }),

@@ -21,12 +21,13 @@ mod films;
 mod full_list;
 mod included;
 mod inputs;
+mod interpretive_list;
+mod new_files;
 mod remarks;
 mod rope_bytes;
 mod ropes;
 mod source_faults;
 mod streams;
-mod symbol_output;
 mod traces;
 mod watches;
 

@@ -66,6 +66,8 @@ pub struct ListArgs {
     pub shows_zeros: bool,
     /// The bank of the file's first word (`--first-bank`), if the file is some modules of a rope.
     pub first_bank: Option<u8>,
+    /// The values of `--interpretive`: words to print as interpretive code.
+    pub interpretive: Vec<String>,
 }
 
 /// Arguments of `weave`: a text file to assemble.
@@ -75,8 +77,12 @@ pub struct WeaveArgs {
     pub form: RopeForm,
     /// The file that the symbols of the text are written to (`--write-names`).
     pub write_names: Option<String>,
-    /// Whether that file may exist already (`--force`).
+    /// The file that the listing of the text is written to (`--write-listing`).
+    pub write_listing: Option<String>,
+    /// Whether these files may exist already (`--force`).
     pub force: bool,
+    /// Whether the banks end with sums (`--sums`).
+    pub adds_sums: bool,
 }
 
 /// Arguments of `check`: at least one file to check.

@@ -1,4 +1,7 @@
 //! Prints the words of two ropes that differ, and blocks of words that moved, with the lines of their sources.
+ghost use Rattle.std.specs.Prelude.{◌<◌};
+ghost use Rattle.agc_store.specs.Places.{fixed_words};
+
 use agc_check::{MovedBlock, moved_blocks, places_apart};
 use agc_listing::{leads_on, next_is_extracode, push_order, push_rope_place};
 use agc_store::Store;
@@ -15,6 +18,8 @@ pub struct LinedRope {
     pub store: Store,
     /// For each place, the number of the line that put its word there, or 0; empty if the rope has no source.
     pub lines: Vec<usize>,
+    /// The name of each line of the source, as `PAGE.agc line 3`; empty if the source is one file.
+    pub line_names: Vec<String>,
 }
 
 impl LinedRope {
@@ -57,10 +62,10 @@ fn push_block(
 ) -> Result<(), AllocError> {
     let count = block.count;
     push_rope_place(text, block.source)?;
-    push_line(text, first.line_at(block.source))?;
+    push_line(text, first, block.source)?;
     text.push_str(" moved to ")?;
     push_rope_place(text, block.target)?;
-    push_line(text, second.line_at(block.target))?;
+    push_line(text, second, block.target)?;
     writeln!(text, ": {count} words")
 }
 
@@ -79,9 +84,9 @@ fn push_words(
         if left.bits() != right.bits() && !is_explained(blocks, place, left, right) {
             push_rope_place(text, place)?;
             text.push_str(": ")?;
-            push_word(text, left, left_extracode, first.line_at(place))?;
+            push_word(text, first, place, left_extracode)?;
             text.push_str(" | ")?;
-            push_word(text, right, right_extracode, second.line_at(place))?;
+            push_word(text, second, place, right_extracode)?;
             text.push_str("\n")?;
         }
         left_leads = next_is_extracode(left_extracode, left);
@@ -106,26 +111,32 @@ fn is_within(place: usize, start: usize, count: usize) -> bool {
     start <= place && place < start.saturating_add(count)
 }
 
-/// Appends a word, its order and its line. A word +0 without a line is no word.
+/// Appends the word at a place, its order and its line. A word +0 without a line is no word.
 fn push_word(
     text: &mut String,
-    word: Narrow,
+    rope: &LinedRope,
+    place: usize,
     extracode: bool,
-    line: Option<usize>,
-) -> Result<(), AllocError> {
-    if word.bits() == 0 && line.is_none() {
+) -> Result<(), AllocError>
+    requires { place < fixed_words }
+{
+    let word = rope.store.fixed_at(place);
+    if word.bits() == 0 && rope.line_at(place).is_none() {
         return text.push_str("no word");
     }
     write!(text, "{word} ")?;
     push_order(text, extracode, word)?;
-    push_line(text, line)
+    push_line(text, rope, place)
 }
 
-/// Appends the number of a line, if there is one.
-fn push_line(text: &mut String, line: Option<usize>) -> Result<(), AllocError> {
-    match line {
-        Some(line) => write!(text, " (line {line})"),
-        None => Ok(()),
+/// Appends the line of the word at a place, if it has one.
+fn push_line(text: &mut String, rope: &LinedRope, place: usize) -> Result<(), AllocError> {
+    let Some(line) = rope.line_at(place) else {
+        return Ok(());
+    };
+    match rope.line_names.as_slice().get(line.saturating_sub(1)) {
+        Some(name) => write!(text, " ({name})"),
+        None => write!(text, " (line {line})"),
     }
 }
 

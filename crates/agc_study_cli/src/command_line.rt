@@ -57,6 +57,11 @@ impl<'a> Subcommands<'a> {
             .source_option()
             .style_option()
             .zeros_option()
+            .repeated(
+                "interpretive",
+                "PLACES",
+                "Print only these words, as interpretive code: 05,2071-05,2107, or names; repeatable",
+            )
             .first_bank_option()
             .ignore_parity_option();
         self.with(
@@ -72,7 +77,12 @@ impl<'a> Subcommands<'a> {
             .text_file()
             .form_option()
             .write_names_option()
-            .force_option();
+            .write_listing_option()
+            .force_option()
+            .flag(
+                "sums",
+                "End each bank with TC SELF twice and the word that makes its sum right",
+            );
         self.with(
             "weave",
             "Assembles a source, or a text as list prints it, into a rope file on standard output.",
@@ -576,14 +586,19 @@ impl<'a> ArgList<'a> {
         )
     }
 
-    fn force_option(self) -> ArgList<'a> {
-        let arg = flag(
-            self.alloc,
-            "force",
-            "Let --write-names replace an existing file, except the source itself",
+    fn write_listing_option(self) -> ArgList<'a> {
+        self.option(
+            "write-listing",
+            "FILE",
+            "Write the source's lines with their places and words to this new file, which weave reads",
         )
-        .requires_arg("write-names");
-        self.with_tied(arg)
+    }
+
+    fn force_option(self) -> ArgList<'a> {
+        self.flag(
+            "force",
+            "Let --write-names and --write-listing replace existing files, except the source itself",
+        )
     }
 
     fn text_file(self) -> ArgList<'a> {

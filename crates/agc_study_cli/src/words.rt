@@ -85,6 +85,13 @@ fn args_of(alloc: Global, name: &str, given: &ArgMatches<'_>) -> Result<Args, Ar
 }
 
 fn list_args(alloc: Global, given: &ArgMatches<'_>) -> Result<Args, ArgsFault> {
+    let interpretive = texts_of(alloc, given, "interpretive")?;
+    if !interpretive.is_empty() && has_other_style(given) {
+        return Err(mistake(
+            alloc,
+            "error: --interpretive prints its words alone, without --bank, --all, --source and --style\n",
+        ));
+    }
     Ok(Args::List(ListArgs {
         rope: path_of(alloc, given, "rope")?,
         form: form_of(given),
@@ -94,7 +101,16 @@ fn list_args(alloc: Global, given: &ArgMatches<'_>) -> Result<Args, ArgsFault> {
         ignores_parity: given.get_flag("ignore-parity"),
         shows_zeros: given.get_flag("all"),
         first_bank: first_bank_of(alloc, given)?,
+        interpretive,
     }))
+}
+
+/// Returns whether other words, or another style, are asked for.
+fn has_other_style(given: &ArgMatches<'_>) -> bool {
+    given.get_str("bank").is_some()
+        || given.get_str("style").is_some()
+        || given.get_flag("source")
+        || given.get_flag("all")
 }
 
 fn style_of(given: &ArgMatches<'_>) -> ListStyle {
@@ -108,11 +124,22 @@ fn style_of(given: &ArgMatches<'_>) -> ListStyle {
 }
 
 fn weave_args(alloc: Global, given: &ArgMatches<'_>) -> Result<Args, ArgsFault> {
+    let write_names = text_of(alloc, given, "write-names")?;
+    let write_listing = text_of(alloc, given, "write-listing")?;
+    let force = given.get_flag("force");
+    if force && write_names.is_none() && write_listing.is_none() {
+        return Err(mistake(
+            alloc,
+            "error: --force needs --write-names or --write-listing\n\nFor more information, try '--help'.\n",
+        ));
+    }
     Ok(Args::Weave(WeaveArgs {
         text: path_of(alloc, given, "text")?,
         form: form_of(given),
-        write_names: text_of(alloc, given, "write-names")?,
-        force: given.get_flag("force"),
+        write_names,
+        write_listing,
+        force,
+        adds_sums: given.get_flag("sums"),
     }))
 }
 

@@ -281,6 +281,7 @@ fn listed(rt: &impl AllocGlobal, rope: &[u8], style: ListStyle) -> Result<Vec<u8
         ignores_parity: false,
         shows_zeros: false,
         first_bank: None,
+        interpretive: Vec::new(rt.alloc()),
     };
     let mut rope = rope;
     let form = LineForm::new(rt.alloc(), None, None);

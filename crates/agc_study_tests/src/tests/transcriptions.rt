@@ -12,6 +12,7 @@ fn lined(rt: &(impl AllocGlobal + Abort), source: &str) -> LinedRope {
         lines: word_lines(rt.alloc(), source.as_bytes())
             .ok()
             .expect(rt, "lines"),
+        line_names: Vec::new(rt.alloc()),
     }
 }
 
@@ -20,6 +21,7 @@ fn unlined(rt: &(impl AllocGlobal + Abort), source: &str) -> LinedRope {
     LinedRope {
         store: store_of_source(rt, source),
         lines: Vec::new(rt.alloc()),
+        line_names: Vec::new(rt.alloc()),
     }
 }
 

@@ -1,0 +1,322 @@
+//! Prints words as code of the interpretive language: pairs of operations, their operands, and stores.
+ghost use Rattle.std.specs.Prelude.{◌<◌};
+
+use agc_interpretive::{
+    Action, Count, Due, Form, Index, Operation, Pending, Place, ShiftKind, Store as StoreOrder,
+    StoreKind, When, address_in, branch_in, cadr_in, cell_in, indexes, name_in, pair_in, shift_in,
+    store_in, switch_in,
+};
+use agc_listing::{Location, push_rope_place};
+use agc_store::Store;
+use agc_store::place::FIXED_WORDS;
+use agc_symbols::{SymbolTable, push_nearby};
+use std::alloc::{AllocError, Global};
+
+/// What a word is that no rule of the language reads.
+const UNREAD: &str = "no interpretive word";
+
+/// A reader of consecutive words.
+#[derive(Drop)]
+struct Reader<'a> {
+    store: &'a Store,
+    names: &'a Option<SymbolTable>,
+    /// The operands that are due.
+    due: Pending,
+}
+
+/// An operation with its name: of a general shift or a switch its operand decides it.
+#[derive(Clone, Copy)]
+struct Named {
+    name: &'static str,
+    is_indexed: bool,
+    operation: Operation,
+}
+
+/// Returns a line for each word from the first place to the last: place, word, and what it is in the interpretive
+/// language. The first word is a pair of operations or a store.
+pub fn interpretive_lines(
+    alloc: Global,
+    store: &Store,
+    names: &Option<SymbolTable>,
+    first: usize,
+    last: usize,
+) -> Result<String, AllocError> {
+    let mut text = String::new(alloc);
+    let mut reader = Reader {
+        store,
+        names,
+        due: Pending::NOTHING,
+    };
+    for place in first..FIXED_WORDS as usize {
+        if place > last {
+            break;
+        }
+        push_rope_place(&mut text, place)?;
+        write!(text, " {} ", store.fixed_at(place))?;
+        reader.push_line(&mut text, place)?;
+        text.push_str("\n")?;
+    }
+    Ok(text)
+}
+
+impl Reader<'_> {
+    ghost use Rattle.std.specs.Prelude.{◌<◌};
+
+    /// Returns the bits of the word at a place; 0 past fixed memory.
+    fn bits_at(&self, place: usize) -> u16
+        ensures { result < 0o100000 }
+    {
+        if place < FIXED_WORDS as usize {
+            self.store.fixed_at(place).bits()
+        } else {
+            0
+        }
+    }
+
+    /// Appends what the word at a place is.
+    fn push_line(&mut self, text: &mut String, place: usize) -> Result<(), AllocError> {
+        let bits = self.bits_at(place);
+        match self.due.first {
+            Some(Due::Popped) if bits >= 0o40000 => self.push_code(text, place, bits),
+            Some(due) => {
+                self.due = self.due.rest();
+                self.push_operand(text, due, place, bits)
+            }
+            None if self.due.is_behind_stadr => self.push_store(text, 0o77777 - bits),
+            None if bits < 0o40000 => self.push_store(text, bits),
+            None => self.push_code(text, place, bits),
+        }
+    }
+
+    /// Appends a pair of operations; behind STADR a word is a store all the same.
+    fn push_code(&mut self, text: &mut String, place: usize, bits: u16) -> Result<(), AllocError>
+        requires { bits < 0o100000 }
+    {
+        if self.due.is_behind_stadr {
+            return self.push_store(text, 0o77777 - bits);
+        }
+        let Some((left, right)) = pair_in(bits) else {
+            return self.push_unread(text);
+        };
+        let Some(left) = self.named(left, place.saturating_add(1)) else {
+            return self.push_unread(text);
+        };
+        let behind = Pending::behind(left.operation, None);
+        let right = match right {
+            None => None,
+            Some(code) => {
+                let operand = place.saturating_add(1).saturating_add(count_of(&behind));
+                match self.named(code, operand) {
+                    Some(right) => Some(right),
+                    None => return self.push_unread(text),
+                }
+            }
+        };
+        push_name(text, left)?;
+        match right {
+            Some(right) => {
+                self.due = Pending::behind(left.operation, Some(right.operation));
+                text.push_str(" ")?;
+                push_name(text, right)
+            }
+            None => {
+                self.due = behind;
+                Ok(())
+            }
+        }
+    }
+
+    fn push_unread(&mut self, text: &mut String) -> Result<(), AllocError> {
+        self.due = Pending::NOTHING;
+        text.push_str(UNREAD)
+    }
+
+    /// Returns the operation with a code, whose first operand is at a place.
+    fn named(&self, code: u16, operand: usize) -> Option<Named> {
+        let code = code % 0o200;
+        let is_indexed = indexes(code);
+        let bits = self.bits_at(operand);
+        let name = match name_in(code) {
+            "GSHIFT" => shift_name(shift_in(is_indexed, bits)?.0),
+            "SW/" => switch_name(bits)?,
+            name => name,
+        };
+        let operation = Operation::from_name(name.as_bytes())?;
+        Some(Named {
+            name,
+            is_indexed,
+            operation: Operation {
+                code: operation.code,
+                form: operation.form,
+                is_indexed,
+            },
+        })
+    }
+
+    /// Appends a store with its cell.
+    fn push_store(&mut self, text: &mut String, bits: u16) -> Result<(), AllocError> {
+        let Some((store, cell)) = store_in(bits) else {
+            return self.push_unread(text);
+        };
+        let (name, kind, is_indexed, index) = store_parts(store);
+        self.due = Pending::behind(
+            Operation {
+                code: 0,
+                form: Form::Store(kind),
+                is_indexed,
+            },
+            None,
+        );
+        text.push_str(name)?;
+        text.push_str(if is_indexed { "* " } else { " " })?;
+        self.push_place(text, Place::Erasable(cell))?;
+        push_index(text, index)
+    }
+
+    /// Appends an operand.
+    fn push_operand(
+        &self,
+        text: &mut String,
+        due: Due,
+        place: usize,
+        bits: u16,
+    ) -> Result<(), AllocError>
+        requires { bits < 0o100000 }
+    {
+        match due {
+            Due::Popped => self.push_address(text, false, place, bits),
+            Due::Address(is_indexed) => self.push_address(text, is_indexed, place, bits),
+            Due::Shift(_, is_indexed) => match shift_in(is_indexed, bits) {
+                Some((_, count, index)) => {
+                    push_count(text, count)?;
+                    push_index(text, index)
+                }
+                None => text.push_str(UNREAD),
+            },
+            Due::Constant if bits >= 0o40000 => write!(text, "-{:o}", 0o77777 - bits),
+            Due::Constant => write!(text, "{bits:o}"),
+            Due::Cell => self.push_place(text, cell_in(bits)),
+            Due::Branch => self.push_place(text, branch_in(bits)),
+            Due::Cadr => self.push_place(text, cadr_in(bits)),
+            Due::Switch(_, _) => write!(text, "{:o}", switch_in(bits).2),
+        }
+    }
+
+    fn push_address(
+        &self,
+        text: &mut String,
+        is_indexed: bool,
+        place: usize,
+        bits: u16,
+    ) -> Result<(), AllocError>
+        requires { bits < 0o100000 }
+    {
+        let half = if place < 0o40000 { 0 } else { 0o40000 };
+        match address_in(half, is_indexed, bits) {
+            Some((place, index)) => {
+                self.push_place(text, place)?;
+                push_index(text, index)
+            }
+            None => text.push_str(UNREAD),
+        }
+    }
+
+    /// Appends a place by its name, or as sources write it.
+    fn push_place(&self, text: &mut String, place: Place) -> Result<(), AllocError> {
+        let location = match place {
+            Place::Erasable(cell) => Location::Erasable(u32::from(cell)),
+            Place::Fixed(fixed) => Location::Fixed(u32::from(fixed)),
+        };
+        if let Some(names) = self.names {
+            if let Some(near) = names.operand_at(location) {
+                return push_nearby(text, near);
+            }
+        }
+        match place {
+            Place::Erasable(cell) => write!(text, "{cell:o}"),
+            Place::Fixed(fixed) => push_rope_place(text, usize::from(fixed)),
+        }
+    }
+}
+
+/// Returns how many operands are due.
+fn count_of(due: &Pending) -> usize {
+    usize::from(due.first.is_some())
+        .saturating_add(usize::from(due.second.is_some()))
+        .saturating_add(usize::from(due.third.is_some()))
+        .saturating_add(usize::from(due.fourth.is_some()))
+}
+
+fn push_name(text: &mut String, named: Named) -> Result<(), AllocError> {
+    text.push_str(named.name)?;
+    if named.is_indexed {
+        text.push_str("*")?;
+    }
+    Ok(())
+}
+
+fn push_index(text: &mut String, index: Index) -> Result<(), AllocError> {
+    match index {
+        Index::Direct => Ok(()),
+        Index::X1 => text.push_str(",1"),
+        Index::X2 => text.push_str(",2"),
+    }
+}
+
+/// Appends the places of a shift; less than none as `0 -7`.
+fn push_count(text: &mut String, count: Count) -> Result<(), AllocError> {
+    let places = count.places;
+    if count.minus {
+        write!(text, "0 -{places:o}")
+    } else {
+        write!(text, "{places:o}")
+    }
+}
+
+fn shift_name(kind: ShiftKind) -> &'static str {
+    match kind {
+        ShiftKind::Left => "SL",
+        ShiftKind::Right => "SR",
+        ShiftKind::LeftRounded => "SLR",
+        ShiftKind::RightRounded => "SRR",
+    }
+}
+
+/// Returns the name of an operation on a switch; nothing is kept and no branch taken by none.
+fn switch_name(bits: u16) -> Option<&'static str> {
+    if bits >= 0o100000 {
+        return None;
+    }
+    let (action, when, _) = switch_in(bits);
+    match (action, when) {
+        (Action::Set, When::IfOn) => Some("BONSET"),
+        (Action::Set, When::Always) => Some("SETGO"),
+        (Action::Set, When::IfOff) => Some("BOFSET"),
+        (Action::Set, When::Never) => Some("SET"),
+        (Action::Invert, When::IfOn) => Some("BONINV"),
+        (Action::Invert, When::Always) => Some("INVGO"),
+        (Action::Invert, When::IfOff) => Some("BOFINV"),
+        (Action::Invert, When::Never) => Some("INVERT"),
+        (Action::Clear, When::IfOn) => Some("BONCLR"),
+        (Action::Clear, When::Always) => Some("CLRGO"),
+        (Action::Clear, When::IfOff) => Some("BOFCLR"),
+        (Action::Clear, When::Never) => Some("CLEAR"),
+        (Action::Keep, When::IfOn) => Some("BON"),
+        (Action::Keep, When::IfOff) => Some("BOFF"),
+        (Action::Keep, When::Always | When::Never) => None,
+    }
+}
+
+/// Returns the name of a store, its kind, whether it indexes what it loads, and the index of its cell.
+fn store_parts(store: StoreOrder) -> (&'static str, StoreKind, bool, Index) {
+    match store {
+        StoreOrder::Store => ("STORE", StoreKind::Store, false, Index::Direct),
+        StoreOrder::StoreX1 => ("STORE", StoreKind::Store, false, Index::X1),
+        StoreOrder::StoreX2 => ("STORE", StoreKind::Store, false, Index::X2),
+        StoreOrder::Stodl => ("STODL", StoreKind::Stodl, false, Index::Direct),
+        StoreOrder::StodlIndexed => ("STODL", StoreKind::Stodl, true, Index::Direct),
+        StoreOrder::Stovl => ("STOVL", StoreKind::Stovl, false, Index::Direct),
+        StoreOrder::StovlIndexed => ("STOVL", StoreKind::Stovl, true, Index::Direct),
+        StoreOrder::Stcall => ("STCALL", StoreKind::Stcall, false, Index::Direct),
+    }
+}

@@ -1,0 +1,11 @@
+//! What `weave` writes beside the words of a source, the sums of the banks and a listing; and a rope's words as
+//! interpretive code.
+#![tactic(auto)]
+
+mod interpretive_code;
+mod source_listing;
+mod sums;
+
+pub use interpretive_code::interpretive_lines;
+pub use source_listing::{ListingFault, listing_of};
+pub use sums::{SummedRope, SumsFault, with_sums};
