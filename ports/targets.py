@@ -35,6 +35,9 @@ WASM_FLAGS = f"-mllvm -expand-div-rem-bits=64 -mllvm -expand-fp-convert-bits=64 
 WASM_CPU = "-mcpu=lime1 -mbulk-memory"
 WASM_OPT = """wasm-opt --enable-bulk-memory --enable-sign-ext --enable-nontrapping-float-to-int --enable-mutable-globals
     --enable-multivalue"""
+WASM_LOWER = f"{WASM_OPT} --enable-memory64 --memory64-lowering"
+WASM_LINK = ("wasm-ld -m wasm64 --no-entry --export=main --export=malloc --gc-sections --stack-first -z stack-size=8388608"
+             " --fatal-warnings --strip-debug")
 
 # --wrap=main: ports/native/linux.c and ports/windows/windows.c say why
 LD = "ld.lld -s --gc-sections --wrap=main"
@@ -95,11 +98,22 @@ TARGETS = {
         files=("native/heap.ll", "wasm/wasm.c", "wasm/int128.c"),
         packages=("binaryen",),
         commands=(
-            "wasm-ld -m wasm64 --no-entry --export=main --export=malloc --gc-sections --stack-first -z stack-size=8388608"
-            " --fatal-warnings --strip-debug -o {made}.wasm {code} {shims}",
-            f"{WASM_OPT} --enable-memory64 --memory64-lowering {{made}}.wasm -o {{made}}-32.wasm",
+            f"{WASM_LINK} -o {{made}}.wasm {{code}} {{shims}}",
+            f"{WASM_LOWER} {{made}}.wasm -o {{made}}-32.wasm",
             f"{WASM_OPT} --asyncify --pass-arg=asyncify-imports@host.read -O1 {{made}}-32.wasm -o {{made}}-32-asyncify.wasm",
         ),
+        flags=f"{WASM_CPU} {WASM_FLAGS}",
+        shim_flags=f"{WASM_CPU} {SHIM_FLAGS}",
+    ),
+    # a module with 32-bit addresses, for every browser: the program never waits for input
+    "wasm32": Target(
+        machine="x86_64",
+        triple="wasm64-unknown-unknown",
+        programs=("agc-study",),
+        ends=(".wasm",),
+        files=("native/heap.ll", "wasm/wasm.c", "wasm/files.c", "wasm/int128.c"),
+        packages=("binaryen",),
+        commands=(f"{WASM_LINK} -o {{made}}-64.wasm {{code}} {{shims}}", f"{WASM_LOWER} {{made}}-64.wasm -o {{made}}.wasm"),
         flags=f"{WASM_CPU} {WASM_FLAGS}",
         shim_flags=f"{WASM_CPU} {SHIM_FLAGS}",
     ),

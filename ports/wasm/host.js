@@ -1,4 +1,4 @@
-// What agc-console calls of its host, as WebAssembly: files in memory, and streams by two functions. It runs in a page, in a
+// What the programs call of their host, as WebAssembly: files in memory, and streams by two functions. It runs in a page, in a
 // worker and in node.
 //
 // Numbers of 64 bits, addresses too, are BigInt, in the modules with 32-bit addresses as well.
@@ -67,6 +67,19 @@ export function makeHost({ args, files, read, write }) {
       while (opened.has(file)) file++;
       opened.set(file, { path, data: files.get(path), at: 0 });
       return file;
+    },
+    // whether a path is that of a file (1) or of a folder (2)
+    kind(at, count) {
+      const path = text(at, count);
+      if (files.has(path)) return 1;
+      return [...files.keys()].some((each) => each.startsWith(`${path.replace(/\/$/, "")}/`)) ? 2 : 0;
+    },
+    rename(at, count, newAt, newCount) {
+      const [from, to] = [text(at, count), text(newAt, newCount)];
+      if (!files.has(from)) return -ENOENT;
+      files.set(to, files.get(from));
+      if (from !== to) files.delete(from);
+      return 0;
     },
     close: (file) => (opened.delete(file) ? 0 : -EBADF),
     unlink: (at, count) => (files.delete(text(at, count)) ? 0 : -ENOENT),

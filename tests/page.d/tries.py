@@ -11,6 +11,7 @@ import time
 import flights
 import opening
 import randoms
+import source
 from firefox import Firefox
 from judge import TOP, attempt, depends_on_time, finish, judge
 from local import FILE, LocalPage, LocalSite, web
@@ -21,7 +22,7 @@ def try_made():
     """The file is what launch/page makes of the page, the examples and the prebuilt program."""
     done = subprocess.run([os.path.join(TOP, 'launch', 'page'), '--check'], capture_output=True, text=True)
     judge('agc.html', (0, '2 passed, 0 failed\n', ''), (done.returncode, done.stdout, done.stderr))
-    judge('at most 5 MB', True, os.path.getsize(FILE) <= 5_000_000)
+    judge('at most 8 MB', True, os.path.getsize(FILE) <= 8_000_000)
 
 
 def try_session():
@@ -107,7 +108,7 @@ def try_firefox():
 
 TRIES = (
     try_made, try_session, try_example, web.try_changes, web.try_stop, web.try_sizes, try_words, try_fallbacks, *flights.TRIES, *randoms.TRIES,
-    *opening.TRIES,
+    *opening.TRIES, *source.TRIES,
 )
 
 

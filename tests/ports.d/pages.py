@@ -1,10 +1,12 @@
-"""Runs the sessions of examples/console and a landing in a browser, with each form of agc-console as WebAssembly.
+"""Runs programs as WebAssembly in a browser: the sessions of examples/console and a landing, with each form of agc-console, and
+what agc-study weaves and lists in examples/study.
 
-    pages.py BROWSER FOLDER
+    pages.py BROWSER FOLDER PROGRAM ..
 
 The folder has the script `landing`, and in `console` what agc-console prints of it.
 """
 
+import base64
 import http.server
 import json
 import sys
@@ -44,6 +46,17 @@ SESSION = """
     worker.postMessage({ module, files: given, args });
     go_on();
   });
+})
+"""
+# Runs a program that reads no input: {module, args, files: {path: address}}. Standard output comes in base 64.
+ONCE = """
+(async ({ module, args, files }) => {
+  const { runOnce } = await import("/ports/wasm/once.js");
+  window.compiled ??= WebAssembly.compile(await (await fetch(module)).arrayBuffer());
+  const given = new Map();
+  for (const [path, address] of Object.entries(files)) given.set(path, new Uint8Array(await (await fetch(address)).arrayBuffer()));
+  const { status, out, err } = await runOnce(await compiled, args, given);
+  return { status, out: btoa([...out].map((byte) => String.fromCharCode(byte)).join("")), err };
 })
 """
 # The page is on this machine.
@@ -122,19 +135,53 @@ def try_page(page, address):
     judge("the page", ["at 10", "at 10", "write 30 010 44017", "at 40"], answers)
 
 
-def main(program, scratch):
-    """Runs all sessions with each form."""
-    top = Path(TOP)
+def words_of(top, folder):
+    """Returns the words of an example, and the addresses of the files that it names."""
+    args = text(folder / "args").split()
+    paths = [word for word in args if (folder / word).is_file()]
+    return args, {word: f"/{(folder / word).resolve().relative_to(top)}" for word in paths}
+
+
+def try_study(page, address, top):
+    """Weaves and lists the examples with agc-study, and weaves the landing."""
+    study = top / "examples/study"
+    names = [each.name for each in sorted(study.iterdir()) if text(each / "args").split()[:1] in (["weave"], ["list"])]
+    # these name devices
+    names = [each for each in names if each not in ("list-memory", "list-escape", "names-weave-device")]
+    judge("examples that weave and list", True, len(names) > 20)
+    for name in names:
+        args, files = words_of(top, study / name)
+        given = {"module": f"{address}/prebuilt/wasm32/agc-study.wasm", "args": ["agc-study", *args], "files": files}
+        came = page.value(f"{ONCE}({json.dumps(given)})")
+        out = (study / name / "stdout").read_bytes() if (study / name / "stdout").exists() else b""
+        wanted = {"status": int(text(study / name / "status") or 0), "out": out, "err": text(study / name / "stderr")}
+        judge(f"agc-study: {name}", wanted, {**came, "out": base64.b64decode(came["out"])})
+    files = {"source": "/examples/descent/descent.agc"}
+    given = {"module": "", "args": ["agc-study", "weave", "source", "--write-names", "names"], "files": files}
+    came = page.value(f"{ONCE}({json.dumps(given)})")
+    judge("agc-study: the landing", (0, (top / "examples/descent/rope").read_bytes()), (came["status"], base64.b64decode(came["out"])))
+
+
+def try_console(page, address, top, scratch):
+    """Runs all sessions with each form of agc-console."""
     folders = [each for each in sorted((top / "examples/console").iterdir()) if each.is_dir()]
     sessions = {each.name: session(top, each) for each in folders} | {"a landing": landing(scratch)}
-    address = serve(scratch)
-    page = browser.Browser(program, scratch, 800, 600)
-    page.load(f"{address}/blank.html")
     for form in FORMS:
         for name, (given, wanted) in sessions.items():
             came = page.value(f"{SESSION}({json.dumps({'module': f'{address}/prebuilt/wasm/{form}.wasm', **given})})")
             judge(f"{form}: {name}", wanted, {key: came.get(key) for key in wanted})
     try_page(page, address)
+
+
+def main(program, scratch, *names):
+    """Runs these programs."""
+    address = serve(scratch)
+    page = browser.Browser(program, scratch, 800, 600)
+    page.load(f"{address}/blank.html")
+    if "agc-study" in names:
+        try_study(page, address, Path(TOP))
+    if "agc-console" in names:
+        try_console(page, address, Path(TOP), scratch)
     judge("errors of the pages", [], page.errors())
     page.close()
     finish()

@@ -39,6 +39,9 @@ def try_target(name):
     """The programs for another machine."""
     manifest = Manifest(name)
     manifest.folder = tree / "prebuilt" / name
+    if not manifest.folder.exists():
+        print(f"skipped: prebuilt/{name}, because ports/build has not made it yet")
+        return
     judge(f"{name}: each file is in the manifest", sorted([*manifest.digests, "MANIFEST"]), sorted(it.name for it in manifest.folder.iterdir()))
     for program in manifest.facts:
         for file in manifest.files(program):

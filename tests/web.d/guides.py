@@ -171,8 +171,8 @@ def try_guides():
     site = Site([sys.executable, '-B', example('descent', 'craft.py'), '--web', '--port', '0'])
     window = opened(site)
     site.do('speed', times=10)
-    titles = ['Land', 'Land with alarm 1202', 'Lamp test and clock']
-    judge('three guides', titles, see(window, 'guiding.guides.map((each) => each.title)', titles))
+    titles = ['Land', 'Land with alarm 1202', 'Lamp test and clock', "Exercise: the engine's end"]
+    judge('the guides', titles, see(window, 'guiding.guides.map((each) => each.title)', titles))
     judge('faults of the guides', [], window.value('guiding.faults'))
     steps, _ = walk(window, 'Lamp test and clock', 'That is all.')
     judge('each step was shown, as far as it took time', True, len(steps) >= 6)

@@ -25,13 +25,23 @@ async function through(stream, bytes, most) {
   return all;
 }
 
+// A text as what stands in a link, and back.
+async function codeOf(text) {
+  const bytes = await through(new CompressionStream('deflate-raw'), new TextEncoder().encode(text), Infinity);
+  return base64Of(bytes).replaceAll('+', '-').replaceAll('/', '_').replaceAll('=', '');
+}
+
+async function textOfCode(code) {
+  const bytes = bytesOf(code.replaceAll('-', '+').replaceAll('_', '/'));
+  return new TextDecoder().decode(await through(new DecompressionStream('deflate-raw'), bytes, LONGEST_TEXT_OF_LINK));
+}
+
 // The address of this page with the session behind it; throws an error if that would be too long.
 async function linkOf(files, kept) {
   const { rope, ...rest } = storedFiles(files);
   const isAsGiven = files.example && rope === EXAMPLES[files.example].rope;
   const text = JSON.stringify({ ...(isAsGiven ? { title: files.title, example: files.example, names: files.names, watch: files.watch, sum: sumOf(rope) } : { rope, ...rest }), ...storedRest(kept) });
-  const bytes = await through(new CompressionStream('deflate-raw'), new TextEncoder().encode(text), Infinity);
-  const code = base64Of(bytes).replaceAll('+', '-').replaceAll('/', '_').replaceAll('=', '');
+  const code = await codeOf(text);
   if (code.length > LONGEST_LINK) {
     throw new Error(`The session is too long for a link: ${grouped(code.length)} characters, at most ${grouped(LONGEST_LINK)}. Send its script.`);
   }
@@ -44,8 +54,7 @@ async function readLink(hash) {
   if (code.length > LONGEST_LINK) throw new Error('it is too long');
   let text;
   try {
-    const bytes = bytesOf(code.replaceAll('-', '+').replaceAll('_', '/'));
-    text = new TextDecoder().decode(await through(new DecompressionStream('deflate-raw'), bytes, LONGEST_TEXT_OF_LINK));
+    text = await textOfCode(code);
   } catch {
     throw new Error('it is cut off, or no session');
   }

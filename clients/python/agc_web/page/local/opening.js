@@ -32,9 +32,10 @@ async function openExample(name) {
 // Opens the first session of the page.
 async function openFirst() {
   buildOpening();
-  if (location.hash.startsWith(MARK) && await openLink()) return;
-  if (await openKept()) return;
-  await openExample(FIRST);
+  buildSource();
+  const isOpen = (location.hash.startsWith(MARK) && await openLink()) || await openKept();
+  if (!isOpen) await openExample(FIRST);
+  openLinkedSource();
 }
 
 // Opens the session of the link; returns whether it did.
@@ -86,6 +87,10 @@ function kindOf(name, bytes) {
 // Opens the files of a list: a rope, or what goes with the rope that is open.
 async function openFiles(list) {
   const found = {};
+  if (list.length === 1 && isSourceName(list[0].name)) {
+    openSourceFile(list[0]);
+    return;
+  }
   for (const file of list) {
     if (file.size > LARGEST_FILE) {
       say(`${file.name} is no rope or script: it has ${grouped(file.size)} bytes.`);
@@ -154,12 +159,19 @@ function openingDialog() {
   return make('dialog', { id: 'open', 'aria-labelledby': 'open-title' },
     make('h2', { id: 'open-title' }, 'Open'),
     make('ul', { id: 'example-list', 'aria-label': 'Examples' }, ...examples),
+    ...(HAS_ASSEMBLER ? sourcesToChange(choose) : []),
     make('p', {}, make('label', {}, 'Your rope, with its script and names if you like: ', input)),
     make('p', {}, make('label', {}, make('input', { type: 'checkbox', id: 'parity' }), ' with parity bits'), ' (you may also drop files on the page)'),
     make('p', { class: 'note' }, 'Opening ends the session that is shown. This browser keeps one session; nothing leaves this page.'),
     make('p', { class: 'row' }, button('Forget the kept session', choose(forgetAndSay), { id: 'forget' }),
       button('Download the one put aside', () => download('other.script', scriptIn(keptAside())), { id: 'aside' }),
       button('Close', () => find('open').close(), { id: 'open-close' })));
+}
+
+function sourcesToChange(choose) {
+  const items = Object.entries(SOURCES).map(([name, { title, about }]) => make('li', {},
+    button(title, choose(() => openSourceExample(name)), { 'data-source': name }), ` ${about}`));
+  return [make('h2', {}, 'Write'), make('ul', { id: 'source-list', 'aria-label': 'Sources to change' }, ...items)];
 }
 
 function showOpening() {
@@ -198,12 +210,16 @@ async function openFilm() {
 
 async function copyLink() {
   try {
-    const link = await linkOf(session.files, session.kept());
-    await navigator.clipboard.writeText(link).then(() => say('The link is copied. It holds this session, and opens it with time stopped.'), () => {
-      history.replaceState(null, '', link);
-      say('The address of this page is the link now: copy it there.');
-    });
+    await offerLink(await linkOf(session.files, session.kept()), 'The link is copied. It holds this session, and opens it with time stopped.');
   } catch (error) {
     say(error.message);
   }
+}
+
+// Copies a link and says so; if the browser refuses that, the page's address is the link.
+async function offerLink(link, what) {
+  await navigator.clipboard.writeText(link).then(() => say(what), () => {
+    history.replaceState(null, '', link);
+    say('The address of this page is the link now: copy it there.');
+  });
 }

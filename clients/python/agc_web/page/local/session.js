@@ -1,6 +1,6 @@
 'use strict';
 // The session behind the page of agc.html: a machine in a worker of this page. It takes the place of web/session.js, and has the
-// same calls; `open`, `files` and `kept` are for the other files of this folder.
+// same calls; `weave`, `open`, `files` and `kept` are for the other files of this folder.
 
 // Whether this browser has what the smaller of the two modules of agc-console needs: it suspends a module that waits, and has
 // memories with 64-bit addresses. Eight bytes and such a memory are a whole module.
@@ -93,6 +93,7 @@ const session = {
   look: (wanted) => callEngine('look', wanted),
   find: (wanted) => callEngine('find', wanted),
   script: async () => (await callEngine('script')).script,
+  weave: (text) => weaveText(text),
   scriptAddress: '#script',
   filmAddress: '#film',
 

@@ -1,0 +1,31 @@
+// The worker that weaves: agc-study as WebAssembly, on files in memory.
+//
+// The page posts {code}, the bytes of the module, and then {text} for each text. Each text is answered by {status, said, rope,
+// names, listing}: the status of `agc-study weave`, what it said on standard error, and with status 0 what it made.
+import { runOnce } from '../../../../../../ports/wasm/once.js';
+
+const [PROGRAM, SOURCE, NAMES, ROPE] = ['agc-study', 'source', 'names', 'rope'];
+
+let module = null; // a promise of the compiled program
+
+async function weave(text) {
+  const files = new Map([[SOURCE, new TextEncoder().encode(text)]]);
+  const { status, out, err } = await runOnce(await module, [PROGRAM, 'weave', SOURCE, '--write-names', NAMES], files);
+  if (status !== 0) return { status, said: err };
+  const names = files.get(NAMES);
+  const listed = await runOnce(await module, [PROGRAM, 'list', ROPE, '--names', NAMES], new Map([[ROPE, out], [NAMES, names]]));
+  const listing = new TextDecoder().decode(listed.out) + listed.err;
+  return { status, said: err, rope: out, names: new TextDecoder().decode(names), listing };
+}
+
+onmessage = async ({ data: { code, text } }) => {
+  if (code) {
+    module = WebAssembly.compile(code);
+    return;
+  }
+  try {
+    postMessage(await weave(text));
+  } catch (error) {
+    postMessage({ error: `The assembler has failed: ${error.message}` });
+  }
+};
