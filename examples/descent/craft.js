@@ -44,7 +44,7 @@ const RENDEZVOUS = 0o36; // counts the rendezvous radar's angle
 const PULSES = 65; // of it in a hundredth of a second, each a cycle
 const KEY_TICKS = 25; // between two keys
 const WAIT_TICKS = 200; // from the last one to the pulses
-const RADAR_TICKS = 700; // of pulses
+const RADAR_TICKS = 500; // of pulses
 const HELD = 20; // ticks in which a switch is held
 
 // The buttons that click the switch for the rate of descent and the hand controller: channel, its word then and afterwards, interrupt.

@@ -340,7 +340,7 @@ ABORT = "VERB 3 7 ENTR 7 0 ENTR".split()
 RENDEZVOUS = 0o36  # counts the rendezvous radar's angle
 PULSES = 65  # of it in a hundredth of a second, each a cycle: some 6,500 a second
 SWITCHES = {"rate-up": "ROD+", "rate-down": "ROD-", "farther": "ACA+", "nearer": "ACA-"}  # the buttons that are clicks
-KEY_TICKS, WAIT_TICKS, RADAR_TICKS = 25, 200, 700  # between two keys; from the last one to the pulses; of pulses
+KEY_TICKS, WAIT_TICKS, RADAR_TICKS = 25, 200, 500  # between two keys; from the last one to the pulses; of pulses
 
 
 class Instrument:
@@ -385,7 +385,7 @@ class Instrument:
 
     def rendezvous(self, agc):
         """Has the crew watch the range, and sends the rendezvous radar's pulses: together they are more than the computer
-        has time for, and the alarm is 1202. A script has no room for the pulses of more than seven seconds."""
+        has time for, and the alarm is 1202. A script has no room for the pulses of many seconds."""
         since = -1 if self.switched is None else self.ticks - self.switched
         keyed = len(WATCHES) * KEY_TICKS
         if 0 <= since < keyed and since % KEY_TICKS == 0:

@@ -209,6 +209,8 @@ def try_link():
     judge('it stands, and the page says where it is from', ('paused', True), (page.text('state'), page.notice().startswith('This session came with the link.')))
     page.open_file()
     judge('what was kept is still there', 'Lander', page.text('rope'))
+    try_linked_guide(page)
+    page.site.open('lander')
     good = {'format': 1, 'title': 'x', 'example': 'verbs', 'cycle': 0, 'events': [], 'controls': [], 'speed': 1, 'breakpoints': []}
     cases = [
         ('no text', '!!', 'it is cut off, or no session.'), ('cut off', link[link.index('=') + 1:-40], 'it is cut off, or no session.'),
@@ -228,6 +230,20 @@ def try_link():
     page.value(f"location.hash = 'session={packed(good)}'; undefined")
     judge('a good session is opened', 'x', page.see("document.getElementById('rope').textContent", 'x'))
     page.close()
+
+
+def try_linked_guide(page):
+    """The link of a session has its guided steps, and the guide that is followed: of an example, of a lesson with its script, and
+    the user's own."""
+    own = 'guide Own\nstep Read this.\n'
+    for name, more, guide in (('descent', {}, 'Land with alarm 1202'), ('count-2', {}, 'A table'), ('verbs', {'guide': own}, 'Own')):
+        page.site.open(name, **more)
+        page.value(f'beginGuideNamed({json.dumps(guide)}); undefined')
+        seen = page.value('[session.files.guide, guiding.guide.title, session.files.script]')
+        link = page.value('linkOf(session.files, session.kept())')
+        page.site.open('waitlist')
+        page.open_file(link[link.index('#'):])
+        judge(f'{guide}: the link keeps it', seen, page.value('[session.files.guide, guiding.guide?.title, session.files.script]'))
 
 
 def try_policy():

@@ -48,6 +48,17 @@ def try_example():
     page = FirstPage(LocalSite(example('verbs', 'rope')))
     judge('paused at cycle 0', ('paused', 0), (page.state('paused'), page.cycle()))
     judge('the title', 'Verbs and nouns', page.see("document.getElementById('rope').textContent", 'Verbs and nouns'))
+    buttons = "[...document.querySelectorAll('#strip-buttons button')].map((each) => each.textContent)"
+    offered = ['Lamp test', 'Landing on the Moon', 'First program', 'More …', '✕']
+    judge('guides are offered', offered, page.see(buttons, offered))
+    lessons = ['First program', 'A table', 'An interrupt', 'Ten digits', 'Find a fault']
+    judge('the lessons', lessons, page.value("[...document.querySelectorAll('#lesson-list button')].map((each) => each.textContent)"))
+    page.value("document.querySelector('[data-example=\"count-1\"]').click(); undefined")
+    judge('a lesson has its guide', True, page.see("guiding.guides.map((each) => each.title).join()", 'First program') == 'First program')
+    page.value("openExample('verbs').then(() => { find('play').click(); return 0; })")
+    judge('it runs', 'running', page.state('running'))
+    page.value("[...document.querySelectorAll('#strip-buttons button')].find((each) => each.textContent === 'Landing on the Moon').click()")
+    judge('a session that has begun is not left by one click', (True, 'Verbs and nouns'), (page.value("find('open').open"), page.text('rope')))
     page.close()
 
 

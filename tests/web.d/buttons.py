@@ -164,7 +164,10 @@ def begin_again(flight):
 
 def abort(flight):
     """The button types V37E70E, and the craft climbs."""
+    flight.site.do('speed', times=1)  # so that a click that comes late comes in flight
     before = flight.click('Abort')
+    judge('the first key', True, wait(lambda: any(each.startswith('key ') for each in flight.since(before)), 600))
+    flight.site.do('speed', times=10)
     judge('program 70', True, wait(lambda: flight.program() == '70', 600))
     judge('what was typed', [f'key {key}' for key in 'VERB 3 7 ENTR 7 0 ENTR'.split()], [each for each in flight.since(before) if each.startswith('key ')])
     flight.site.do('speed', times=100)

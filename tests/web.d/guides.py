@@ -13,6 +13,9 @@ FOLDER = scratch_folder()
 
 GOOD = """# A comment
 guide One
+need Begin at the start.
+click start
+until start or R1 _____1
 step Let time run.
 why It stands,
 why and so nothing happens.
@@ -21,7 +24,7 @@ click play
 until running, speed 10
 step Type 4 2.
 click keys 4 2
-until NOUN 42, dark PROG, FLASH off
+until NOUN 42 or NOUN 99, dark PROG, FLASH off
 step Wait.
 until seconds 1
 step Read this.
@@ -31,14 +34,20 @@ click pause
 until paused
 """
 
+CONDITIONS = 'PROG, VERB, NOUN, R1, R2, R3, FLASH, lit, dark, running, paused, speed, seconds, row, instrument, explained, start, outcome, next'
+
 FAULTS = (
     ('step Early', 'line 1: a step comes after its guide'),
     ('guide', 'line 1: a guide has a title'),
     ('guide A', 'guide A has no step'),
+    ('need Early', 'line 1: a need comes after its guide'),
+    ('guide A\nneed', 'line 2: a need says what to do'),
+    ('guide A\nneed B', 'guide A has no step'),
+    ('guide A\nstep B\nuntil running or flip', 'line 3: until flip is unknown: ' + CONDITIONS),
     ('guide A\nwhy Because', 'line 2: this comes after its step'),
     ('guide A\nstep', 'line 2: a step says what to do'),
-    ('guide A\nstep B\nflip C', 'line 3: unknown word flip: guide, step, why, click or until'),
-    ('guide A\nstep B\nclick flip', 'line 3: click flip is unknown: keys, play, pause, step, undo, why, speed, press, tab, break'),
+    ('guide A\nstep B\nflip C', 'line 3: unknown word flip: guide, need, step, why, click or until'),
+    ('guide A\nstep B\nclick flip', 'line 3: click flip is unknown: keys, play, pause, step, undo, start, why, speed, press, tab, break'),
     ('guide A\n\n# note\nstep B\nclick keys 3 FLIP', 'line 5: click keys: no key FLIP'),
     ('guide A\nstep B\nclick speed 7', 'line 3: click speed: a speed is 1, 10, 100 or 1000'),
     ('guide A\nstep B\nuntil PROG 6', 'line 3: until PROG: 2 characters, with _ for a blank'),
@@ -46,7 +55,7 @@ FAULTS = (
     ('guide A\nstep B\nuntil lit FLASH', 'line 3: until lit: no lamp FLASH'),
     ('guide A\nstep B\nuntil seconds x', 'line 3: until seconds: a number of seconds'),
     ('guide A\nstep B\nuntil row Altitude', 'line 3: until row: NAME = VALUE, NAME < NUMBER or NAME > NUMBER'),
-    ('guide A\nstep B\nuntil constructor', 'line 3: until constructor is unknown: PROG, VERB, NOUN, R1, R2, R3, FLASH, lit, dark, running, paused, speed, seconds, row, outcome, next'),
+    ('guide A\nstep B\nuntil constructor', 'line 3: until constructor is unknown: ' + CONDITIONS),
 )
 """Files, and their first faults."""
 
@@ -89,7 +98,7 @@ def try_language():
         judge(f'the fault of {text!r}', fault, window.value(f'parseGuides({json.dumps(text)}).faults[0]'))
     judge('a good file has none', [], window.value(f'parseGuides({json.dumps(GOOD)}).faults'))
     window.value(f"loadGuides({json.dumps(f'guide {MARKUP}{chr(10)}step {MARKUP}{chr(10)}fly')}); undefined")
-    judge('the first fault is shown', 'The guide has a fault: line 3: unknown word fly: guide, step, why, click or until.', window.value(TEXT).strip())
+    judge('the first fault is shown', 'The guide has a fault: line 3: unknown word fly: guide, need, step, why, click or until.', window.value(TEXT).strip())
     judge('and the guide that has none can be used', True, window.value(BUTTONS).startswith(MARKUP))
     window.value("document.querySelector('#strip-buttons button').click(); undefined")
     judge('markup is a text', (True, 0), (MARKUP in window.value(TEXT), window.value("document.querySelectorAll('#strip img').length + (window.ran ?? 0)")))
@@ -114,6 +123,11 @@ def try_steps():
     judge('a step without a condition waits for a click', 'Next ✕', see(window, BUTTONS, 'Next ✕'))
     click(window, 'Next')
     see_step(window, 'That is all.')
+    click(window, 'One')
+    judge('what it needs is no step', 'One Begin at the start.', see(window, TEXT, 'One Begin at the start.'))
+    click(window, 'Skip')
+    see_step(window, 'One 4/4 Read this.')
+    click(window, '✕')
     click(window, 'Two')
     judge('Skip', 'Do it Skip ✕', see(window, BUTTONS, 'Do it Skip ✕'))
     click(window, 'Skip')

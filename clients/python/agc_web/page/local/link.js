@@ -36,11 +36,18 @@ async function textOfCode(code) {
   return new TextDecoder().decode(await through(new DecompressionStream('deflate-raw'), bytes, LONGEST_TEXT_OF_LINK));
 }
 
-// The address of this page with the session behind it; throws an error if that would be too long.
-async function linkOf(files, kept) {
+// What a link says of the files: of an example only what differs from it.
+function linkedFiles(files) {
   const { rope, ...rest } = storedFiles(files);
-  const isAsGiven = files.example && rope === EXAMPLES[files.example].rope;
-  const text = JSON.stringify({ ...(isAsGiven ? { title: files.title, example: files.example, names: files.names, watch: files.watch, sum: sumOf(rope) } : { rope, ...rest }), ...storedRest(kept) });
+  const from = EXAMPLES[files.example];
+  if (rope !== from?.rope) return { rope, ...rest };
+  const { script, guide, ...others } = rest;
+  return { ...others, ...(script !== (from.script ?? '') && { script }), ...(guide !== from.guide && { guide }), sum: sumOf(rope) };
+}
+
+// The address of this page with the session behind it, and the guide that is followed; throws an error if that would be too long.
+async function linkOf(files, kept) {
+  const text = JSON.stringify({ ...linkedFiles(files), ...storedRest(kept), chosen: guiding.guide?.title ?? null });
   const code = await codeOf(text);
   if (code.length > LONGEST_LINK) {
     throw new Error(`The session is too long for a link: ${grouped(code.length)} characters, at most ${grouped(LONGEST_LINK)}. Send its script.`);
@@ -48,7 +55,7 @@ async function linkOf(files, kept) {
   return `${location.href.split('#')[0]}${MARK}${code}`;
 }
 
-// Reads the session of a link: {files, kept}. Throws an error that says what is wrong.
+// Reads the session of a link: {files, kept, chosen}. Throws an error that says what is wrong.
 async function readLink(hash) {
   const code = hash.slice(MARK.length);
   if (code.length > LONGEST_LINK) throw new Error('it is too long');
@@ -59,9 +66,9 @@ async function readLink(hash) {
     throw new Error('it is cut off, or no session');
   }
   const found = readSession(text);
-  const { sum } = JSON.parse(text);
+  const { sum, chosen } = JSON.parse(text);
   if (sum !== undefined && sum !== sumOf(EXAMPLES[found.files.example].rope)) throw new Error('it is of another version of this page');
-  return found;
+  return { ...found, chosen };
 }
 
 // A number that differs if a text differs, but for rare cases: FNV-1a with 32 bits.

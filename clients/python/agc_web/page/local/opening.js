@@ -1,8 +1,9 @@
 'use strict';
 // What is opened: a link's session, the one that this browser keeps, an example, or files that the user chooses or drops.
 
-const EXAMPLES = JSON.parse(dataOf('examples')); // by name {title, about, rope, names, watch, guide, instrument}
+const EXAMPLES = JSON.parse(dataOf('examples')); // by name {title, about, rope, script, names, watch, guide, instrument, isLesson}
 const FIRST = 'verbs';
+const OFFERED = ['descent', 'count-1']; // by the strip
 const LARGEST_FILE = 4e6; // bytes
 const SCRIPT_LINE = /^\s*(#|\d+\s+(key|pro|input|pulse|raise|poke)\b|$)/;
 
@@ -41,8 +42,9 @@ async function openFirst() {
 // Opens the session of the link; returns whether it did.
 async function openLink() {
   try {
-    const { files, kept } = await readLink(location.hash);
+    const { files, kept, chosen } = await readLink(location.hash);
     if (!await openAndSay(files, kept, 'The session of the link cannot be opened: ')) return false;
+    beginGuideNamed(chosen);
     keeping.is = false;
     say('This session came with the link. A reload opens it anew: download its script to keep what you change.');
     return true;
@@ -122,6 +124,7 @@ function buildOpening() {
   find('trouble').before(notice);
   find('help-button').before(button('Open …', () => showOpening(), { id: 'open-button', 'aria-haspopup': 'dialog' }));
   document.body.append(openingDialog());
+  guiding.more = otherGuides;
   const link = button('Link', copyLink, { id: 'link' });
   find('film').before(link, ' ');
   find('download').addEventListener('click', (event) => {
@@ -141,6 +144,13 @@ function buildOpening() {
   window.addEventListener('hashchange', () => { if (location.hash.startsWith(MARK)) openLink(); });
 }
 
+// Buttons of the strip: the other examples that begin with a guide. If the session that is shown has begun, the dialog opens first.
+function otherGuides() {
+  const open = (name) => (now.cycle || engine.events.length ? showOpening() : openExample(name));
+  const names = OFFERED.filter((name) => name !== session.files?.example);
+  return [...names.map((name) => button(EXAMPLES[name].title, () => open(name))), button('More …', showOpening)];
+}
+
 function button(text, action, attributes = {}) {
   const made = make('button', { type: 'button', ...attributes }, text);
   made.addEventListener('click', action);
@@ -152,13 +162,15 @@ function openingDialog() {
     find('open').close();
     action();
   };
-  const examples = Object.entries(EXAMPLES).map(([name, { title, about }]) => make('li', {},
+  const listed = (wanted) => Object.entries(EXAMPLES).filter(([, { isLesson }]) => isLesson === wanted).map(([name, { title, about }]) => make('li', {},
     button(title, choose(() => openExample(name)), { 'data-example': name }), ` ${about}`));
   const input = make('input', { type: 'file', id: 'files', multiple: '' });
   input.addEventListener('change', choose(() => openFiles([...input.files]).then(() => { input.value = ''; })));
   return make('dialog', { id: 'open', 'aria-labelledby': 'open-title' },
     make('h2', { id: 'open-title' }, 'Open'),
-    make('ul', { id: 'example-list', 'aria-label': 'Examples' }, ...examples),
+    make('ul', { id: 'example-list', 'aria-label': 'Examples' }, ...listed(false)),
+    make('p', {}, 'Lessons with guided steps:'),
+    make('ul', { id: 'lesson-list', 'aria-label': 'Lessons' }, ...listed(true)),
     ...(HAS_ASSEMBLER ? sourcesToChange(choose) : []),
     make('p', {}, make('label', {}, 'Your rope, with its script and names if you like: ', input)),
     make('p', {}, make('label', {}, make('input', { type: 'checkbox', id: 'parity' }), ' with parity bits'), ' (you may also drop files on the page)'),

@@ -148,6 +148,7 @@ function resetPage() {
   find('tabs').replaceChildren();
   find('watched').replaceChildren();
   Object.assign(guiding, { text: undefined, guide: null, at: 0 });
+  Object.assign(why, { pending: null, darkAt: null, isExplained: false });
   Object.assign(inspector, { tab: 'orders', cycle: -1, events: -1, watched: [] });
   for (const cell of document.querySelectorAll('#memory tbody td, #channels .word')) cell.textContent = '';
 }

@@ -8,7 +8,7 @@ const ALL_LAMPS = new Set([...LAMPS.filter(Boolean), 'COMP ACTY']);
 const COMPARISONS = { '=': (found, wanted) => found === wanted, '<': (found, wanted) => amount(found) < amount(wanted), '>': (found, wanted) => amount(found) > amount(wanted) };
 
 const shown = {}; // the last news of each part
-const guiding = { guides: [], faults: [], guide: null, at: 0, since: 0, hidden: false };
+const guiding = { guides: [], faults: [], guide: null, at: 0, since: 0, hidden: false, more: () => [] }; // `more` makes further buttons
 
 const amount = (text) => parseFloat(text.replace(/[−,]/g, (sign) => (sign === ',' ? '' : '-')));
 
@@ -21,12 +21,15 @@ function parseGuides(text) {
   text.split(/\r?\n/).forEach((line, i) => {
     const [, word, rest] = line.match(/^\s*(\S*)\s*(.*?)\s*$/);
     if (word === '' || word.startsWith('#')) return;
-    const fault = Object.hasOwn(LINES, word) ? LINES[word](guides, rest) : `unknown word ${word}: guide, step, why, click or until`;
+    const fault = Object.hasOwn(LINES, word) ? LINES[word](guides, rest) : `unknown word ${word}: guide, need, step, why, click or until`;
     if (fault) faults.push(`line ${i + 1}: ${fault}`);
   });
-  for (const { title } of guides.filter(({ steps }) => !steps.length)) faults.push(`guide ${title} has no step`);
-  return { guides: guides.filter(({ steps }) => steps.length), faults };
+  for (const { title } of guides.filter((guide) => !countSteps(guide))) faults.push(`guide ${title} has no step`);
+  return { guides: guides.filter((guide) => countSteps(guide)), faults };
 }
+
+// Counts the steps of a guide up to one of them; what it needs is no step.
+const countSteps = ({ steps }, end = Infinity) => steps.slice(0, end).filter(({ isNeed }) => !isNeed).length;
 
 const lastGuide = (guides) => guides[guides.length - 1];
 const lastStep = (guides) => lastGuide(guides)?.steps[lastGuide(guides).steps.length - 1];
@@ -38,20 +41,32 @@ const LINES = {
     guides.push({ title: rest, steps: [] });
     return '';
   },
-  step(guides, rest) {
-    if (!guides.length) return 'a step comes after its guide';
-    if (!rest) return 'a step says what to do';
-    lastGuide(guides).steps.push({ what: rest, why: '', clicks: [], until: [] });
-    return '';
-  },
+  need: (guides, rest) => addStep(guides, rest, true),
+  step: (guides, rest) => addStep(guides, rest, false),
   why: (guides, rest) => withStep(guides, (step) => { step.why = `${step.why} ${rest}`.trim(); }),
   click: (guides, rest) => withStep(guides, (step) => addParsed(step.clicks, CLICKS, rest, 'click')),
-  until: (guides, rest) => withStep(guides, (step) => rest.split(/,\s+/).map((each) => addParsed(step.until, CONDITIONS, each, 'until')).find(Boolean)),
+  until: (guides, rest) => withStep(guides, (step) => rest.split(/,\s+/).map((each) => addConditions(step.until, each)).find(Boolean)),
 };
+
+function addStep(guides, what, isNeed) {
+  const kind = isNeed ? 'need' : 'step';
+  if (!guides.length) return `a ${kind} comes after its guide`;
+  if (!what) return `a ${kind} says what to do`;
+  lastGuide(guides).steps.push({ what, why: '', clicks: [], until: [], isNeed });
+  return '';
+}
 
 function withStep(guides, task) {
   const step = lastStep(guides);
   return step ? task(step) || '' : 'this comes after its step';
+}
+
+// Adds a condition, or some of which one is enough, to a list; returns a fault, or nothing.
+function addConditions(list, text) {
+  const some = [];
+  const fault = text.split(/\s+or\s+/).map((each) => addParsed(some, CONDITIONS, each, 'until')).find(Boolean);
+  list.push(() => some.some((holds) => holds()));
+  return fault;
 }
 
 // Adds what a table makes of a text to a list; returns a fault, or nothing.
@@ -75,7 +90,8 @@ const CLICKS = {
   pause: () => ({ run: () => ask('pause') }),
   step: () => ({ run: () => ask('step') }),
   undo: () => ({ run: undo }),
-  why: () => ({ run: explainAlarm }),
+  start: () => ({ run: () => ask('go', { cycle: 0 }) }),
+  why: () => ({ run: explainLamp }),
   speed: (text) => (SPEED_STEPS.includes(Number(text)) ? { run: () => ask('speed', { times: Number(text) }) } : 'a speed is 1, 10, 100 or 1000'),
   press: (text) => (text ? { run: () => pressControl(text) } : 'name a button of an instrument'),
   tab: (text) => (text ? { run: () => chooseTab(text) } : 'name a tab'),
@@ -97,6 +113,9 @@ const CONDITIONS = {
     const [, name, sign, value] = text.match(/^(.+?) ([=<>]) (.+)$/) || [];
     return name ? () => rowsShown().some(([each, found]) => each === name && COMPARISONS[sign](String(found), value)) : 'NAME = VALUE, NAME < NUMBER or NAME > NUMBER';
   },
+  instrument: () => () => (shown.instruments || []).length > 0,
+  explained: () => () => why.isExplained,
+  start: () => () => now.cycle === 0,
   outcome: () => () => (shown.instruments || []).some((view) => view.outcome?.text),
   next: (text) => (text ? () => (shown.machine?.next || '').split(/\s+/).includes(text) : 'a name or an order'),
 };
@@ -144,6 +163,12 @@ function beginGuide(guide) {
   followGuide();
 }
 
+// Begins a guide by its title, if there is such a guide.
+function beginGuideNamed(title) {
+  const guide = guiding.guides.find((each) => each.title === title);
+  if (guide) beginGuide(guide);
+}
+
 function nextStep() {
   guiding.at += 1;
   guiding.since = now.cycle;
@@ -180,15 +205,17 @@ const choices = () => guiding.guides.map((guide) => stripButton(guide.title, `Gu
 // Returns what the strip says: a title, what to do, why, and its buttons.
 function stripOf({ guide, at, faults, guides }) {
   const hide = stripButton('✕', 'Hide the guided steps', () => { guiding.hidden = true; showStrip(); });
-  if (!guide && faults.length) return ['', `The guide has a fault: ${faults[0]}.`, faults.length > 1 ? `${faults.length - 1} more.` : '', [...choices(), hide]];
-  if (!guide) return ['', guides.length ? 'Guided steps:' : '', '', [...choices(), hide]];
+  const all = () => [...choices(), ...guiding.more(), hide];
+  if (!guide && faults.length) return ['', `The guide has a fault: ${faults[0]}.`, faults.length > 1 ? `${faults.length - 1} more.` : '', all()];
+  if (!guide) return ['', guides.length ? 'Guided steps:' : '', '', all()];
   const end = stripButton('✕', 'End the guided steps', () => { guiding.guide = null; showStrip(); });
   const step = stepNow();
-  if (!step) return [guide.title, 'That is all.', 'Choose another one:', [...choices(), hide]];
+  if (!step) return [guide.title, 'That is all.', 'Choose another one:', all()];
   const label = step.clicks.some(({ keys }) => keys) ? 'Type it' : 'Do it';
   const buttons = step.clicks.length ? [stripButton(label, `${label}: ${step.what}`, doStep, 'main')] : [];
   const skip = step.until.length || step.clicks.length ? 'Skip' : 'Next';
-  return [`${guide.title} ${at + 1}/${guide.steps.length}`, step.what, step.why, [...buttons, stripButton(skip, `${skip} this step`, skipStep), end]];
+  const number = step.isNeed ? '' : ` ${countSteps(guide, at + 1)}/${countSteps(guide)}`;
+  return [`${guide.title}${number}`, step.what, step.why, [...buttons, stripButton(skip, `${skip} this step`, skipStep), end]];
 }
 
 // Shows the strip; its buttons are made anew only if it says something else.

@@ -4,11 +4,15 @@
 const ALARMS = ['BAILOUT', 'POODOO', 'ALARM']; // the routines that light PROG
 const CALLS = ['NOVAC', 'FINDVAC', 'SPVAC', 'WAITLIST', 'TWIDDLE', 'FIXDELAY', 'VARDELAY']; // what wants a place in a table
 const CODE = 'FAILREG+2'; // the last alarm's code
+const CODE_OF_LAMP = 'FAILREG'; // that of the first one, for which PROG is lit
 const CODES = { 0o1201: 'no VAC area was free', 0o1202: 'no core set was free', 0o1203: 'no place was free in the Waitlist' };
 const COUNTERS = { 0o32: 'CDUX', 0o33: 'CDUY', 0o34: 'CDUZ', 0o35: 'CDUT: rendezvous radar', 0o36: 'CDUS: rendezvous radar', 0o37: 'PIPAX', 0o40: 'PIPAY', 0o41: 'PIPAZ' };
 const SUPERBANK = 0o100; // of the word that core sets keep: banks 30 to 37 are 40 to 47
 
-const why = { names: new Set(), banks: {}, pending: null };
+const MOST_ALARMS = 8; // that are looked through for the first one
+
+// `darkAt`: the last cycle at which PROG was seen dark while time ran.
+const why = { names: new Set(), banks: {}, pending: null, darkAt: null, isExplained: false };
 
 // names
 
@@ -50,18 +54,35 @@ async function seek(places, before) {
   return answer?.status === 200 ? answer : null;
 }
 
+// Searches for the alarm that lit PROG: the first one since the lamp was dark.
+async function seekFirst(places) {
+  let first = await seek(places);
+  for (let i = 1; first && i < MOST_ALARMS; i += 1) {
+    const { cycle } = first;
+    const answer = await request(() => session.find({ places, before: cycle }));
+    if (answer?.status !== 200 || answer.cycle < why.darkAt) break;
+    first = answer;
+  }
+  return first;
+}
+
 // Goes back to the last time that a breakpoint would have been hit.
 async function backTo(text) {
   const found = await seek([text]);
   return found !== null && ask('go', { cycle: found.cycle });
 }
 
-// Goes back to the order that caused the last alarm: the call of the Executive or the Waitlist that found no room, or else
-// that of the alarm.
-async function explainAlarm() {
+// Explains the alarm for which PROG is lit; others may have come until the user has clicked.
+const explainLamp = () => (why.darkAt === null ? explainLast() : explainAlarm(CODE_OF_LAMP, seekFirst));
+const explainLast = () => explainAlarm(CODE, seek);
+
+// Goes back to the order that caused the alarm that is found: the call of the Executive or the Waitlist that found no room,
+// or else that of the alarm. A cell has its code.
+async function explainAlarm(cell, search) {
+  why.isExplained = false;
   if (now.playing) await ask('pause');
-  const code = await alarmCode();
-  const alarm = await seek(known(ALARMS));
+  const code = await alarmCode(cell);
+  const alarm = await search(known(ALARMS));
   if (!alarm) return;
   const call = code in CODES ? await seek(known(CALLS), alarm.cycle) : null;
   const { order } = call || alarm;
@@ -70,9 +91,9 @@ async function explainAlarm() {
   followWhy();
 }
 
-async function alarmCode() {
-  const seen = await request(() => session.look({ cells: [CODE] }));
-  const word = seen?.cells?.[CODE];
+async function alarmCode(cell) {
+  const seen = await request(() => session.look({ cells: [cell] }));
+  const word = seen?.cells?.[cell];
   return typeof word === 'number' ? word : null;
 }
 
@@ -80,7 +101,10 @@ async function alarmCode() {
 
 // Offers the reason if PROG is lit, and shows it once the machine is where it is to be.
 function followWhy() {
-  find('alarm').hidden = !isLit('PROG') || !known(ALARMS).length;
+  const isAlarm = isLit('PROG') && !LAMPS.filter(Boolean).every(isLit); // a lamp test lights all
+  if (!isAlarm && now.playing) why.darkAt = now.cycle;
+  find('alarm').hidden = !isAlarm || !known(ALARMS).length;
+  if (now.playing) why.isExplained = false;
   if (!why.pending || now.playing) return;
   const { code, cycle } = why.pending;
   if (now.cycle < cycle && !why.pending.isOn) { // the instruments went back to the tick before
@@ -89,6 +113,7 @@ function followWhy() {
   }
   if (now.cycle !== cycle) return;
   why.pending = null;
+  why.isExplained = true;
   showCause(code, cycle);
   showSets((shown.tables || []).filter((line) => line.startsWith('SET ')));
   showStolen(cycle);
@@ -138,7 +163,7 @@ async function showStolen(cycle) {
 }
 
 function buildWhy() {
-  find('why').addEventListener('click', explainAlarm);
-  find('why-again').addEventListener('click', explainAlarm);
+  find('why').addEventListener('click', explainLamp);
+  find('why-again').addEventListener('click', explainLast);
   find('why-return').addEventListener('click', undo);
 }
