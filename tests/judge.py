@@ -147,3 +147,6 @@ def end_by_signal(number, _):
 
 
 signal.signal(signal.SIGTERM, end_by_signal)
+if signal.getsignal(signal.SIGINT) == signal.SIG_IGN:
+    # A script's command in the background ignores Control-C, and so would the programs that the judge starts and ends by it.
+    signal.signal(signal.SIGINT, signal.default_int_handler)
