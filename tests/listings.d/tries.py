@@ -72,7 +72,8 @@ def bank_sum(words, bank):
     return total
 
 
-# Bank 05 has room for the three words just behind offset 1774, bank 06 has none behind 1775.
+# Bank 05 has room for the three words just behind offset 1774, bank 06 has none behind 1775. The words +0 that end bank 07 are
+# the source's too.
 SUMMED = """        SETLOC  4000
         OCT     1
         OCT     77776
@@ -82,12 +83,16 @@ SUMMED = """        SETLOC  4000
         OCT     70000
         SETLOC  25775
         OCT     3
+        BANK    07
+        OCT     7
+        OCT     0
+        OCT     0
         BANK    43
         OCT     40000
 """
 SELVES = {
     "02,4002": "04002", "02,4003": "04003", "01,2001": "02001", "01,2002": "02002", "05,3775": "03775", "05,3776": "03776",
-    "43,2001": "02001", "43,2002": "02002",
+    "43,2001": "02001", "43,2002": "02002", "07,2003": "02003", "07,2004": "02004",
 }
 
 
@@ -105,10 +110,10 @@ def try_sums(scratch):
             judge("--sums, parity: words with wrong parity", [], wrong)
             continue
         words = words_of(rope)
-        for bank in (1, 2, 5, 0o43):
+        for bank in (1, 2, 5, 7, 0o43):
             judge(f"the sum of bank {bank:02o}", bank, bank_sum(words, bank))
         judge("TC SELF", SELVES, {place: words.get(place) for place in SELVES})
-        checks = {"02,4004", "01,2003", "05,3777", "43,2003"}
+        checks = {"02,4004", "01,2003", "05,3777", "07,2005", "43,2003"}
         judge("the other words", plain, {at: word for at, word in words.items() if at not in SELVES and at not in checks})
 
 

@@ -12,13 +12,15 @@ use crate::new_files::{check_new_paths, check_paths_beside, write_new_file};
 use crate::ropes::{Woven, misnamed_line, weave_text};
 use crate::source_faults::{write_expanded_faults, write_other_faults};
 use crate::streams::Streams;
-use agc_asm::{AssemblyFault, Misnamed, assemble, first_misnamed, line_remarks, source_symbols};
+use agc_asm::{
+    AssemblyFault, Misnamed, assemble, first_misnamed, line_remarks, source_symbols, word_lines,
+};
 use agc_cli::exit_usage;
 use agc_include::{Expanded, has_include};
 use agc_io::{OK, ReadError, TEXT_BYTES, WRITE_FAILED, read_limited, status_of, write_in_full};
 use agc_store::RopeForm;
 use agc_study_args::{NAME, WeaveArgs, open_file, remark_on_file};
-use agc_woven::{ListingFault, SumsFault, listing_of, with_sums};
+use agc_woven::{ListingFault, SumsFault, listing_of, used_file, with_sums};
 use std::alloc::Global;
 use std::io::{self, ErrorKind, Read, Write};
 use std::rt::Files;
@@ -143,7 +145,7 @@ fn finished_rope(
     bytes: Vec<u8>,
 ) -> Result<FinishedRope, &'static str> {
     let (file, full) = if args.adds_sums {
-        summed_rope(alloc, args.form, bytes)?
+        summed_rope(alloc, args.form, source, bytes)?
     } else {
         (bytes, Vec::new(alloc))
     };
@@ -165,16 +167,23 @@ fn finished_rope(
     })
 }
 
-/// Adds the sums to a rope, and returns the banks without room too.
+/// Adds the sums to a rope behind the last words of its source, and returns the banks without room too.
 fn summed_rope(
     alloc: Global,
     form: RopeForm,
+    source: &Expanded,
     bytes: Vec<u8>,
 ) -> Result<(Vec<u8>, Vec<u8>), &'static str> {
+    let Ok(lines) = word_lines(alloc, source.text()) else {
+        return Err("memory");
+    };
+    let Ok(used) = used_file(alloc, form, bytes.as_slice(), lines.as_slice()) else {
+        return Err("memory");
+    };
     if bytes.len() % 2 == 1 {
         return Err("memory");
     }
-    match with_sums(alloc, form, bytes.as_slice()) {
+    match with_sums(alloc, form, bytes.as_slice(), used.as_slice()) {
         Ok(summed) => Ok((summed.file, summed.full)),
         Err(SumsFault::Memory) => Err("memory"),
         Err(SumsFault::WrongSum) => Err("a sum came out wrong: report it, please"),

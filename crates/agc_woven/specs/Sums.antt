@@ -53,10 +53,9 @@ checked_banks zero form words rope filled = words
 checked_banks (suc bank) form words rope filled =
     checked_bank form (checked_banks bank form words rope filled) rope filled bank
 
--- the file of a rope with its sums
-unfoldable pub summed_file : RopeForm → List ℕ → List ℕ
-summed_file form file =
-    let rope = damaged_words form file in
+-- The file of a rope with its sums. `rope` says where they stand: behind the last of its words that is not +0.
+unfoldable pub summed_file : RopeForm → List Number → List ℕ → List ℕ
+summed_file form rope file =
     let filled = filled_banks fixed_banks form (file_words file) rope in
     file_of_words (checked_banks fixed_banks form filled rope (damaged_words form (file_of_words filled)))
 

@@ -8,4 +8,4 @@ mod sums;
 
 pub use interpretive_code::interpretive_lines;
 pub use source_listing::{ListingFault, listing_of};
-pub use sums::{SummedRope, SumsFault, with_sums};
+pub use sums::{SummedRope, SumsFault, used_file, with_sums};

@@ -25,7 +25,7 @@ use agc_check::{
     BankSum, SumFit, check_word, damaged_store, file_of_words, file_words, put_word, sum_in_bank,
 };
 use agc_listing::{PlacedWord, listed_address};
-use agc_store::place::{FIXED_BANK_SIZE, FIXED_BANKS, place_of};
+use agc_store::place::{FIXED_BANK_SIZE, FIXED_BANKS, FIXED_WORDS, place_of};
 use agc_store::{RopeForm, Store};
 use agc_word::Narrow;
 use std::alloc::{AllocError, Global};
@@ -53,15 +53,22 @@ impl From<AllocError> for SumsFault {
     }
 }
 
-/// Puts three words behind the last word that is not +0 of each bank with room for them: TC SELF twice, and the word that
-/// makes the sum of the bank its number. No file is returned unless each of these sums is right.
-pub fn with_sums(alloc: Global, form: RopeForm, file: &[u8]) -> Result<SummedRope, SumsFault>
-    requires { length file.now % 2 ≡ 0 }
-    ensures file { IfOk result (λ summed. summed.file.items ≡ summed_file form file.now) }
-    ensures right { IfOk result (λ summed. are_right fixed_banks (damaged_words form file.now) (damaged_words form summed.file.items) ≡ true) }
-    ensures full { IfOk result (λ summed. summed.full.items ≡ full_banks fixed_banks (damaged_words form file.now)) }
+/// Puts three words into each bank with room for them: TC SELF twice, and the word that makes the sum of the bank its
+/// number. `used` is a rope file that says where: behind its last word in the bank that is not +0. So a bank of `file` may
+/// end with words +0 that are used. No file is returned unless each of these sums is right.
+pub fn with_sums(
+    alloc: Global,
+    form: RopeForm,
+    file: &[u8],
+    used: &[u8],
+) -> Result<SummedRope, SumsFault>
+    requires file { length file.now % 2 ≡ 0 }
+    requires used { length used.now % 2 ≡ 0 }
+    ensures file { IfOk result (λ summed. summed.file.items ≡ summed_file form (damaged_words form used.now) file.now) }
+    ensures right { IfOk result (λ summed. are_right fixed_banks (damaged_words form used.now) (damaged_words form summed.file.items) ≡ true) }
+    ensures full { IfOk result (λ summed. summed.full.items ≡ full_banks fixed_banks (damaged_words form used.now)) }
 {
-    let store = damaged_store(alloc, form, file)?;
+    let store = damaged_store(alloc, form, used)?;
     let summed = summed_file(alloc, form, file, &store)?;
     let after = damaged_store(alloc, form, summed.as_slice())?;
     if !are_right(&store, &after) {
@@ -78,8 +85,8 @@ fn summed_file(
     file: &[u8],
     store: &Store,
 ) -> Result<Vec<u8>, AllocError>
-    requires { store.now.fixed ≡ damaged_words form file.now }
-    ensures file { IfOk result (λ summed. summed.items ≡ summed_file form file.now) }
+    requires { length file.now % 2 ≡ 0 }
+    ensures file { IfOk result (λ summed. summed.items ≡ summed_file form store.now.fixed file.now) }
     ensures even { IfOk result (λ summed. length summed.items % 2 ≡ 0) }
 {
     let words = file_words(alloc, file)?;
@@ -88,6 +95,39 @@ fn summed_file(
     let filled_store = damaged_store(alloc, form, filled_file.as_slice())?;
     let summed = checked_banks(form, filled, store, &filled_store)?;
     file_of_words(alloc, summed.as_slice())
+}
+
+/// Returns a rope file whose words are not +0 at the places that have a line of the source. `lines` has for each place
+/// the number of its line, or 0.
+pub fn used_file(
+    alloc: Global,
+    form: RopeForm,
+    file: &[u8],
+    lines: &[usize],
+) -> Result<Vec<u8>, AllocError>
+    ensures { IfOk result (λ used. length used.items % 2 ≡ 0) }
+{
+    let mut words = file_words(alloc, file)?;
+    for place in 0..FIXED_WORDS as usize {
+        if has_line(lines, place) {
+            put_word(
+                &mut words,
+                form,
+                &PlacedWord {
+                    place,
+                    word: Narrow::with_bits(1),
+                },
+            )?;
+        }
+    }
+    file_of_words(alloc, words.as_slice())
+}
+
+fn has_line(lines: &[usize], place: usize) -> bool {
+    match lines.get(place) {
+        Some(number) => *number > 0,
+        None => false,
+    }
 }
 
 /// Puts three words TC SELF behind the last word of each bank with room for them.

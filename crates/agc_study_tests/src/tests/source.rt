@@ -349,7 +349,7 @@ fn faults_of_places(rt: HostRuntime) {
     );
     refuses(&rt, 1, SourceFault::ExtracodeAlone, " WRITE 10\n");
     refuses(&rt, 2, SourceFault::BasicAfterExtend, " EXTEND\n CA 1\n");
-    refuses(&rt, 3, SourceFault::Full, " SETLOC 02,5777\n CA 1\n CA 1\n");
+    refuses(&rt, 3, SourceFault::Full, " SETLOC 03,7777\n CA 1\n CA 1\n");
     refuses(&rt, 2, SourceFault::Full, " SETLOC E7,1777\n ERASE +1\n");
     refuses(&rt, 2, SourceFault::Full, " SETLOC 1377\n ERASE +1\n");
     refuses(&rt, 2, SourceFault::Full, " SETLOC 3777\n 2DEC 1\n");
