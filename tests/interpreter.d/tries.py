@@ -19,7 +19,7 @@ from agc import Console
 from judge import CONSOLE, STUDY, attempt, check, finish, judge, near, scratch_folder
 from model import UNIT, Model, whole
 from programs import HIGH_BANKS, LOW_BANKS, Line, Program, always_in_reach, banks_full, scalar, text
-from weaving import EXAMPLE, HERE, copied, read, weave, woven_by_lines
+from weaving import EXAMPLE, HERE, copied, read, sums_for, weave, woven_by_lines
 
 CELLS, BEGUN, SHOWN = 0o60, 0o55, 0o56  # the channels on which the driver writes
 MOST_CYCLES = 20_000_000  # more than all programs of a rope take
@@ -169,17 +169,36 @@ def try_costs():
     judge("the page's costs", "\n".join(measured()), read("README.md").partition("# Operations")[2].split("\n\n")[2])
 
 
+def bank_sums(rope):
+    """The sum of each bank of a rope that has words: in ones' complement, with the end-around carry. The banks of a file are 02,
+    03, 00, 01, 04 and on."""
+    sums = {}
+    for place in range(0, len(rope), 2048):
+        total = 0
+        for at in range(place, min(place + 2048, len(rope)), 2):
+            total += int.from_bytes(rope[at:at + 2], "big") >> 1
+            total = (total & 0o77777) + (total >> 15)
+        number = place // 2048
+        bank = number + 2 if number < 2 else number - 2 if number < 4 else number
+        if any(rope[place:place + 2048]):
+            sums[bank] = total
+    return sums
+
+
 def try_rope():
     """The ropes and their names are those of the sources, and the page counts the interpreter's words."""
     for source, rope, names in (("main.agc", "rope", "names"), ("orbit.agc", "orbit.rope", "orbit.names")):
         made = woven_by_lines(os.path.join(scratch, source), source)
         judge(f"{rope} is that of its source", read(rope, "rb"), Path(made).read_bytes())
         judge(f"so are {names}", read(names), Path(made + ".names").read_text())
-        done = subprocess.run([STUDY, "weave", os.path.join(EXAMPLE, source)], capture_output=True)
+        done = subprocess.run([STUDY, "weave", os.path.join(EXAMPLE, source), *sums_for(source)], capture_output=True)
         if OLD in done.stderr:
             print("skipped: this agc-study weaves no interpretive lines", flush=True)
         else:
             judge(f"agc-study weaves {rope}", (read(rope, "rb"), b""), (done.stdout, done.stderr))
+    sums = bank_sums(read("orbit.rope", "rb"))
+    judge("each used bank of orbit.rope has its number as its sum", [2, 3, 5, 6, 7], [bank for bank, total in sums.items() if bank == total])
+    judge("no other bank is used", 5, len(sums))
     woven_words = read("rope", "rb")
     words = [int.from_bytes(woven_words[n:n + 2], "big") >> 1 for n in range(0, 4096, 2)]
     place = {name: int(place[3:], 8) - 0o4000 for place, name in map(str.split, read("names").splitlines()) if place[0] == "0"}

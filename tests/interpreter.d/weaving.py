@@ -21,8 +21,13 @@ def weave(folder, name):
     """Weaves a source of a folder. Returns the weaver's end, and the path of the rope, which has its names beside it."""
     rope = os.path.join(folder, "rope")
     with open(rope, "wb") as file:
-        words = [STUDY, "weave", os.path.join(folder, name), "--write-names", rope + ".names", "--force"]
+        words = [STUDY, "weave", os.path.join(folder, name), "--write-names", rope + ".names", "--force", *sums_for(name)]
         return subprocess.run(words, stdout=file, stderr=subprocess.PIPE), rope
+
+
+def sums_for(name):
+    """The option of `weave` for a source of which each bank ends with a check word."""
+    return ["--sums"] if name == "orbit.agc" else []
 
 
 def copied(folder):
