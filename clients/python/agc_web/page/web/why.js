@@ -117,6 +117,7 @@ function followWhy() {
   showCause(code, cycle);
   showSets((shown.tables || []).filter((line) => line.startsWith('SET ')));
   showStolen(cycle);
+  followGuide(); // nothing else comes that would move it on: time stands
 }
 
 function showCause(code, cycle) {
