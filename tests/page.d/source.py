@@ -6,6 +6,7 @@ import json
 import os
 import re
 import subprocess
+import time
 
 from judge import AGC, STUDY, TOP, judge
 from local import LocalPage, LocalSite, web
@@ -156,6 +157,47 @@ def try_blink():
     page.close()
 
 
+STRIP = "find('strip-title').textContent + ': ' + find('strip-what').textContent"
+
+
+def press_in_strip(page, label):
+    """Clicks a button of the strip."""
+    button = f"[...document.querySelectorAll('#strip-buttons button')].find((each) => each.textContent === {json.dumps(label)})"
+    judge(f'the strip has {label}', True, wait(lambda: page.value(f'({button}) !== undefined')))
+    page.value(f'({button}).click(); undefined')
+
+
+def see_in_strip(page, text):
+    judge(f'the strip says: {text}', True, wait(lambda: text in page.value(STRIP)))
+
+
+def try_offered():
+    """What the strip of a first visit offers opens the example, and its first guide begins."""
+    for label, first in (('First program', 'First program 1/'), ('Landing on the Moon', 'Land 1/')):
+        page = started()
+        press_in_strip(page, label)
+        see_in_strip(page, first)
+        page.close()
+
+
+def try_guided():
+    """The guide to a program of one's own: each step is shown, and a program that blinks brings it to its end."""
+    page = started()
+    page.click('#write-button')
+    press_in_strip(page, 'Write a program')
+    for step in ('Weave and run it: COMP ACTY', 'Light OPR ERR too', 'Weave and run it again', 'Make a mistake', 'Mend it'):
+        see_in_strip(page, step)
+        press_in_strip(page, 'Do it')
+    see_in_strip(page, 'Now make COMP ACTY blink')
+    page.value("ask('play'); undefined")
+    time.sleep(1)  # the old program goes on, with the lamp lit
+    see_in_strip(page, 'Now make COMP ACTY blink')
+    write(page, BLINK)
+    page.click('#weave')
+    see_in_strip(page, 'It blinks')
+    page.close()
+
+
 def try_sources():
     """Each source to change has no fault, and weaves to the words that agc-study makes of it."""
     page = started()
@@ -293,4 +335,4 @@ def try_without():
 HAS_ASSEMBLER = os.path.exists(os.path.join(TOP, 'prebuilt', 'wasm32', 'agc-study.wasm'))
 if not HAS_ASSEMBLER:
     print('skipped: the tab Source, because ports/build wasm32 has not made its assembler yet')
-TRIES = (try_without,) if not HAS_ASSEMBLER else (try_without, try_written, try_blink, try_sources, try_source_kept, try_source_files, try_source_link)
+TRIES = (try_without, try_offered) if not HAS_ASSEMBLER else (try_without, try_offered, try_guided, try_written, try_blink, try_sources, try_source_kept, try_source_files, try_source_link)

@@ -144,11 +144,17 @@ function buildOpening() {
   window.addEventListener('hashchange', () => { if (location.hash.startsWith(MARK)) openLink(); });
 }
 
-// Buttons of the strip: the other examples that begin with a guide. If the session that is shown has begun, the dialog opens first.
+// Buttons of the strip: the other examples that begin with a guide. Each opens its example and begins its first guide. If the
+// session that is shown has begun, the dialog opens first.
 function otherGuides() {
-  const open = (name) => (now.cycle || engine.events.length ? showOpening() : openExample(name));
+  const open = (name) => (now.cycle || engine.events.length ? showOpening() : openWithGuide(name));
   const names = OFFERED.filter((name) => name !== session.files?.example);
   return [...names.map((name) => button(EXAMPLES[name].title, () => open(name))), button('More …', showOpening)];
+}
+
+async function openWithGuide(name) {
+  await openExample(name);
+  if (session.files?.example === name && guiding.guides.length) beginGuide(guiding.guides[0]);
 }
 
 function button(text, action, attributes = {}) {

@@ -154,7 +154,7 @@ function chooseTab(name) {
 
 function loadGuides(text) {
   if (guiding.text === text) return;
-  Object.assign(guiding, { text, guide: null, at: 0, ...parseGuides(text || '') });
+  Object.assign(guiding, { text, guide: null, at: 0, says: null, ...parseGuides(text || '') }); // other buttons may have the same names
   showStrip();
 }
 
@@ -178,6 +178,7 @@ const stepNow = () => guiding.guide?.steps[guiding.at];
 
 // Goes on as far as what is shown says. A step without a condition waits for a click.
 function followGuide() {
+  guiding.since = Math.min(guiding.since, now.cycle); // after going back, and from a new start, a step's seconds count from there
   while (stepNow()?.until.length && stepNow().until.every((holds) => holds())) nextStep();
   showStrip();
 }
@@ -222,7 +223,7 @@ function stripOf({ guide, at, faults, guides }) {
 function showStrip() {
   const [title, what, why, buttons] = stripOf(guiding);
   find('strip').hidden = guiding.hidden || !what;
-  const says = JSON.stringify([title, what, why]);
+  const says = JSON.stringify([title, what, why, buttons.map((each) => each.textContent)]);
   if (guiding.says === says) return;
   guiding.says = says;
   setText(find('strip-title'), title);
