@@ -3,14 +3,13 @@ import json
 import os
 import shutil
 
-import browser
 from firefox import Firefox
 from judge import check, judge, scratch_folder
 from looks import READ
 from pages import FOLDER, documents, pages_of_site, place_of
 from site_of import wait
 from views import steady
-from window import Window
+from window import Window, browser
 
 OFFLINE = {'offline': True, 'latency': 0, 'downloadThroughput': 0, 'uploadThroughput': 0}
 LIT = '+88888'

@@ -112,8 +112,11 @@ def try_projector(window, site):
     beyond = "Read.beyond('#strip, .dsky, .lamps li, .display, .display svg, .keys button, .drawing')"
     judge('beyond the screen', [], see(window, beyond, []))
     judge('nothing scrolls', True, see(window, 'document.documentElement.scrollHeight <= innerHeight + 1', True))
+    # A font's own height may be a sixth more than its lines of text here, which nobody sees. So without a narrow font, in which
+    # GIMBAL LOCK is one line, more than that is too much.
     lamps = """[...document.querySelectorAll('.lamps li, .keys button')].map((each) => [each, each.scrollWidth - each.clientWidth,
-        each.scrollHeight - each.clientHeight]).filter(([, wide, high]) => wide > 1 || high > 1).map(([each]) => each.textContent)"""
+        each.scrollHeight - each.clientHeight, parseFloat(getComputedStyle(each).fontSize) / 5])
+        .filter(([, wide, high, least]) => wide > 1 || high > least).map(([each]) => each.textContent)"""
     judge('lamps and keys without room', [], window.value(lamps))
     area = "[...document.querySelectorAll('.dsky, .drawing')].map((each) => each.getBoundingClientRect()).reduce((sum, { width, height }) => sum + width * height, 0) / (innerWidth * innerHeight)"
     judge('DSKY and view fill most of it', True, window.value(area) > 0.55)
