@@ -9,6 +9,13 @@ from judge import CONSOLE, TOP, judge
 from local import FILE, LocalPage, LocalSite, web
 from site_of import example, keys_in, wait
 
+# Keeps what the page says above itself, in order.
+NOTES = '''window.notes = [];
+new MutationObserver(() => {
+    const text = document.getElementById('notice-text')?.textContent;
+    if (text !== undefined && text !== (notes.at(-1) ?? '')) notes.push(text);
+}).observe(document, { childList: true, subtree: true, characterData: true });'''
+
 # A script that would show that markup ran.
 MARKUP = '<img src=x onerror="window.ran=1"><script>window.ran=1</script>'
 
@@ -117,7 +124,10 @@ def try_kept():
     wait(lambda: len(keys_in(page.site.script())) == 2)
     page.site.do('pause')
     before = [page.site.script(), page.cycle(), page.site.state()['panel']]
+    page.window.ask('Page.addScriptToEvaluateOnNewDocument', source=NOTES)
     page.reload()
+    coming = 'The session that this browser keeps is coming back. A long one takes some seconds.'
+    judge('the page says that it comes back, until it is there', [coming, ''], page.value('notes'))
     time = page.site.state()['time']
     judge('after a reload', before, [page.site.script(), page.cycle(), page.site.state()['panel']])
     judge('speed and breakpoints too', (10, ['write 11'], False), (time['speed'], page.site.state()['breakpoints'], time['playing']))

@@ -172,8 +172,8 @@ def see_in_strip(page, text):
 
 
 def try_offered():
-    """What the strip of a first visit offers opens the example, and its first guide begins."""
-    for label, first in (('First program', 'First program 1/'), ('Landing on the Moon', 'Land 1/')):
+    """What the strip of a first visit offers opens the example, and its guide begins."""
+    for label, first in (('First program', 'First program 1/'), ('Landing on the Moon', 'Land 1/'), ('Land with alarm 1202', 'Land with alarm 1202 1/')):
         page = started()
         press_in_strip(page, label)
         see_in_strip(page, first)

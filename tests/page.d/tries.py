@@ -49,7 +49,7 @@ def try_example():
     judge('paused at cycle 0', ('paused', 0), (page.state('paused'), page.cycle()))
     judge('the title', 'Verbs and nouns', page.see("document.getElementById('rope').textContent", 'Verbs and nouns'))
     buttons = "[...document.querySelectorAll('#strip-buttons button')].map((each) => each.textContent)"
-    offered = ['Lamp test', 'Landing on the Moon', 'First program', 'More …', '✕']
+    offered = ['Lamp test', 'Landing on the Moon', 'Land with alarm 1202', 'First program', 'More …', '✕']
     judge('guides are offered', offered, page.see(buttons, offered))
     lessons = ['First program', 'A table', 'An interrupt', 'Ten digits', 'Find a fault']
     judge('the lessons', lessons, page.value("[...document.querySelectorAll('#lesson-list button')].map((each) => each.textContent)"))

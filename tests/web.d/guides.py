@@ -19,6 +19,7 @@ until start or R1 _____1
 step Let time run.
 why It stands,
 why and so nothing happens.
+label Let it run
 click speed 10
 click play
 until running, speed 10
@@ -46,8 +47,10 @@ FAULTS = (
     ('guide A\nstep B\nuntil running or flip', 'line 3: until flip is unknown: ' + CONDITIONS),
     ('guide A\nwhy Because', 'line 2: this comes after its step'),
     ('guide A\nstep', 'line 2: a step says what to do'),
-    ('guide A\nstep B\nflip C', 'line 3: unknown word flip: guide, need, step, why, click or until'),
-    ('guide A\nstep B\nclick flip', 'line 3: click flip is unknown: keys, play, pause, step, undo, start, why, speed, press, tab, break'),
+    ('guide A\nstep B\nlabel', 'line 3: a label is what the button says'),
+    ('guide A\nlabel Go on', 'line 2: this comes after its step'),
+    ('guide A\nstep B\nflip C', 'line 3: unknown word flip: guide, need, step, why, label, click or until'),
+    ('guide A\nstep B\nclick flip', 'line 3: click flip is unknown: keys, play, pause, step, undo, return, start, why, speed, press, tab, break'),
     ('guide A\n\n# note\nstep B\nclick keys 3 FLIP', 'line 5: click keys: no key FLIP'),
     ('guide A\nstep B\nclick speed 7', 'line 3: click speed: a speed is 1, 10, 100 or 1000'),
     ('guide A\nstep B\nuntil PROG 6', 'line 3: until PROG: 2 characters, with _ for a blank'),
@@ -98,7 +101,7 @@ def try_language():
         judge(f'the fault of {text!r}', fault, window.value(f'parseGuides({json.dumps(text)}).faults[0]'))
     judge('a good file has none', [], window.value(f'parseGuides({json.dumps(GOOD)}).faults'))
     window.value(f"loadGuides({json.dumps(f'guide {MARKUP}{chr(10)}step {MARKUP}{chr(10)}fly')}); undefined")
-    judge('the first fault is shown', 'The guide has a fault: line 3: unknown word fly: guide, need, step, why, click or until.', window.value(TEXT).strip())
+    judge('the first fault is shown', 'The guide has a fault: line 3: unknown word fly: guide, need, step, why, label, click or until.', window.value(TEXT).strip())
     judge('and the guide that has none can be used', True, window.value(BUTTONS).startswith(MARKUP))
     window.value("document.querySelector('#strip-buttons button').click(); undefined")
     judge('markup is a text', (True, 0), (MARKUP in window.value(TEXT), window.value("document.querySelectorAll('#strip img').length + (window.ran ?? 0)")))
@@ -114,7 +117,8 @@ def try_steps():
     see(window, BUTTONS, 'One Two ✕')
     click(window, 'One')
     judge('a step, its number, and why', 'One 1/4 Let time run. It stands, and so nothing happens.', see(window, TEXT, 'One 1/4 Let time run. It stands, and so nothing happens.'))
-    click(window, 'Do it')
+    judge('a label of its own', 'Let it run Skip ✕', see(window, BUTTONS, 'Let it run Skip ✕'))
+    click(window, 'Let it run')
     see_step(window, 'One 2/4 Type 4 2.')
     judge('the speed is set', 10, site.state()['time']['speed'])
     window.type('4', '2')
@@ -148,7 +152,7 @@ DO_STEPS = """window.doSteps = (last) => {
         if (steps.at(-1) === text) return;
         steps.push(text);
         if (text.includes(last)) return;
-        const button = [...document.querySelectorAll('#strip-buttons button')].find((each) => ['Do it', 'Type it'].includes(each.textContent));
+        const button = [...document.querySelectorAll('#strip-buttons button')].find((each) => each.classList.contains('main'));
         clicks += Boolean(button);
         button?.click();
     };

@@ -223,7 +223,10 @@ def explain(site, window):
     click(window, 'Why?', '#alarm button')
     text = "document.getElementById('why-text').textContent"
     wait(lambda: 'called' in window.value(text), 300)
-    found = re.fullmatch(r'Alarm 1201: no VAC area was free\. READACCS \+\d+ called FINDVAC at [67]\.\d+ s, cycle ([\d,]+)\. Time stands before this order\.', window.value(text))
+    says = r'Alarm 1201: no VAC area was free\. READACCS \+\d+ called FINDVAC, for it wants a core set and a VAC area for one more job, at [67]\.\d+ s, cycle ([\d,]+)\.'
+    found = re.fullmatch(says, window.value(text))
+    stands = "document.getElementById('why-stands').textContent"
+    judge('time stands there, it says', ' Time stands before this order.', see(window, stands, ' Time stands before this order.'))
     judge('the cause', True, found is not None)
     cycle = int(found.group(1).replace(',', '')) if found else 0
     judge('time stands there', (cycle, 'TC 4176'), (site.state()['time']['cycle'], ' '.join(site.state()['machine']['next'].split()[-2:])))
@@ -242,6 +245,7 @@ def explain(site, window):
         window.picture(os.path.join(os.environ['PICTURES'], 'web-why.png'))
     window.value("document.getElementById('why-return').click(); undefined")
     judge('undo returns to the flight', True, wait(lambda: site.script() == script))
+    judge('and time stands no longer there', '', see(window, stands, ''))
 
 
 TRIES = (try_find, try_exact, try_undone, try_backwards, try_why)

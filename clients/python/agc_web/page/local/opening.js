@@ -3,7 +3,7 @@
 
 const EXAMPLES = JSON.parse(dataOf('examples')); // by name {title, about, rope, script, names, watch, guide, instrument, isLesson}
 const FIRST = 'verbs';
-const OFFERED = ['descent', 'count-1']; // by the strip
+const OFFERED = [['descent', ''], ['descent', 'Land with alarm 1202'], ['count-1', '']]; // by the strip: an example, and a guide that is not its first
 const LARGEST_FILE = 4e6; // bytes
 const SCRIPT_LINE = /^\s*(#|\d+\s+(key|pro|input|pulse|raise|poke)\b|$)/;
 
@@ -59,6 +59,7 @@ async function openKept() {
   const text = keptText();
   if (text === null) return false;
   let why;
+  say('The session that this browser keeps is coming back. A long one takes some seconds.');
   try {
     const { files, kept } = readSession(text);
     why = await session.open(files, kept);
@@ -144,17 +145,17 @@ function buildOpening() {
   window.addEventListener('hashchange', () => { if (location.hash.startsWith(MARK)) openLink(); });
 }
 
-// Buttons of the strip: the other examples that begin with a guide. Each opens its example and begins its first guide. If the
+// Buttons of the strip: the other examples that begin with a guide. Each opens its example and begins a guide. If the
 // session that is shown has begun, the dialog opens first.
 function otherGuides() {
-  const open = (name) => (now.cycle || engine.events.length ? showOpening() : openWithGuide(name));
-  const names = OFFERED.filter((name) => name !== session.files?.example);
-  return [...names.map((name) => button(EXAMPLES[name].title, () => open(name))), button('More …', showOpening)];
+  const open = (...chosen) => (now.cycle || engine.events.length ? showOpening() : openWithGuide(...chosen));
+  const others = OFFERED.filter(([name]) => name !== session.files?.example);
+  return [...others.map(([name, title]) => button(title || EXAMPLES[name].title, () => open(name, title))), button('More …', showOpening)];
 }
 
-async function openWithGuide(name) {
+async function openWithGuide(name, title) {
   await openExample(name);
-  if (session.files?.example === name && guiding.guides.length) beginGuide(guiding.guides[0]);
+  if (session.files?.example === name && guiding.guides.length) beginGuideNamed(title || guiding.guides[0].title);
 }
 
 function button(text, action, attributes = {}) {

@@ -8,7 +8,7 @@ const ALL_LAMPS = new Set([...LAMPS.filter(Boolean), 'COMP ACTY']);
 const COMPARISONS = { '=': (found, wanted) => found === wanted, '<': (found, wanted) => amount(found) < amount(wanted), '>': (found, wanted) => amount(found) > amount(wanted) };
 
 const shown = {}; // the last news of each part
-const guiding = { guides: [], faults: [], guide: null, at: 0, since: 0, hidden: false, more: () => [] }; // `more` makes further buttons
+const guiding = { guides: [], faults: [], guide: null, at: 0, since: 0, isDone: false, hidden: false, more: () => [] }; // `more` makes further buttons
 
 const amount = (text) => parseFloat(text.replace(/[−,]/g, (sign) => (sign === ',' ? '' : '-')));
 
@@ -21,7 +21,7 @@ function parseGuides(text) {
   text.split(/\r?\n/).forEach((line, i) => {
     const [, word, rest] = line.match(/^\s*(\S*)\s*(.*?)\s*$/);
     if (word === '' || word.startsWith('#')) return;
-    const fault = Object.hasOwn(LINES, word) ? LINES[word](guides, rest) : `unknown word ${word}: guide, need, step, why, click or until`;
+    const fault = Object.hasOwn(LINES, word) ? LINES[word](guides, rest) : `unknown word ${word}: guide, need, step, why, label, click or until`;
     if (fault) faults.push(`line ${i + 1}: ${fault}`);
   });
   for (const { title } of guides.filter((guide) => !countSteps(guide))) faults.push(`guide ${title} has no step`);
@@ -44,6 +44,10 @@ const LINES = {
   need: (guides, rest) => addStep(guides, rest, true),
   step: (guides, rest) => addStep(guides, rest, false),
   why: (guides, rest) => withStep(guides, (step) => { step.why = `${step.why} ${rest}`.trim(); }),
+  label: (guides, rest) => withStep(guides, (step) => {
+    step.label = rest;
+    return rest ? '' : 'a label is what the button says';
+  }),
   click: (guides, rest) => withStep(guides, (step) => addParsed(step.clicks, CLICKS, rest, 'click')),
   until: (guides, rest) => withStep(guides, (step) => rest.split(/,\s+/).map((each) => addConditions(step.until, each)).find(Boolean)),
 };
@@ -52,7 +56,7 @@ function addStep(guides, what, isNeed) {
   const kind = isNeed ? 'need' : 'step';
   if (!guides.length) return `a ${kind} comes after its guide`;
   if (!what) return `a ${kind} says what to do`;
-  lastGuide(guides).steps.push({ what, why: '', clicks: [], until: [], isNeed });
+  lastGuide(guides).steps.push({ what, why: '', label: '', clicks: [], until: [], isNeed });
   return '';
 }
 
@@ -90,7 +94,8 @@ const CLICKS = {
   pause: () => ({ run: () => ask('pause') }),
   step: () => ({ run: () => ask('step') }),
   undo: () => ({ run: undo }),
-  start: () => ({ run: () => ask('go', { cycle: 0 }) }),
+  return: () => ({ run: () => why.isExplained && undo() }),
+  start: () => ({ run: () => ask('go', { cycle: 0, sure: true }) }), // the step says so; undo brings back what it drops
   why: () => ({ run: explainLamp }),
   speed: (text) => (SPEED_STEPS.includes(Number(text)) ? { run: () => ask('speed', { times: Number(text) }) } : 'a speed is 1, 10, 100 or 1000'),
   press: (text) => (text ? { run: () => pressControl(text) } : 'name a button of an instrument'),
@@ -159,7 +164,7 @@ function loadGuides(text) {
 }
 
 function beginGuide(guide) {
-  Object.assign(guiding, { guide, at: 0, since: now.cycle });
+  Object.assign(guiding, { guide, at: 0, since: now.cycle, isDone: false });
   followGuide();
 }
 
@@ -170,8 +175,7 @@ function beginGuideNamed(title) {
 }
 
 function nextStep() {
-  guiding.at += 1;
-  guiding.since = now.cycle;
+  Object.assign(guiding, { at: guiding.at + 1, since: now.cycle, isDone: false });
 }
 
 const stepNow = () => guiding.guide?.steps[guiding.at];
@@ -185,6 +189,7 @@ function followGuide() {
 
 function doStep() {
   const { clicks, until } = stepNow();
+  guiding.isDone = true;
   for (const { run } of clicks) run();
   if (!until.length) nextStep();
   followGuide();
@@ -212,11 +217,18 @@ function stripOf({ guide, at, faults, guides }) {
   const end = stripButton('✕', 'End the guided steps', () => { guiding.guide = null; showStrip(); });
   const step = stepNow();
   if (!step) return [guide.title, 'That is all.', 'Choose another one:', all()];
-  const label = step.clicks.some(({ keys }) => keys) ? 'Type it' : 'Do it';
-  const buttons = step.clicks.length ? [stripButton(label, `${label}: ${step.what}`, doStep, 'main')] : [];
+  const buttons = step.clicks.length ? [mainButton(step)] : [];
   const skip = step.until.length || step.clicks.length ? 'Skip' : 'Next';
   const number = step.isNeed ? '' : ` ${countSteps(guide, at + 1)}/${countSteps(guide)}`;
   return [`${guide.title}${number}`, step.what, step.why, [...buttons, stripButton(skip, `${skip} this step`, skipStep), end]];
+}
+
+// Returns the button that does a step. Once it has done so, it stays for another try, and no longer looks like what to do next.
+function mainButton(step) {
+  const keys = step.clicks.flatMap((click) => click.keys || []);
+  const label = step.label || (keys.join() === 'PRO' && 'Press it') || (keys.length ? 'Type it' : 'Do it');
+  const says = guiding.isDone ? `${label} again` : label;
+  return stripButton(says, `${says}: ${step.what}`, doStep, guiding.isDone ? '' : 'main');
 }
 
 // Shows the strip; its buttons are made anew only if it says something else.

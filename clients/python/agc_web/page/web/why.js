@@ -2,7 +2,10 @@
 // Why an alarm came: time goes back to the order that caused it, and the tab Alarm says what the Executive had then.
 
 const ALARMS = ['BAILOUT', 'POODOO', 'ALARM']; // the routines that light PROG
-const CALLS = ['NOVAC', 'FINDVAC', 'SPVAC', 'WAITLIST', 'TWIDDLE', 'FIXDELAY', 'VARDELAY']; // what wants a place in a table
+const JOB = 'a core set for one more job';
+const LARGE_JOB = 'a core set and a VAC area for one more job';
+const TASK = 'a place in the Waitlist for one more task';
+const CALLS = { NOVAC: JOB, FINDVAC: LARGE_JOB, SPVAC: LARGE_JOB, WAITLIST: TASK, TWIDDLE: TASK, FIXDELAY: TASK, VARDELAY: TASK }; // what they want
 const CODE = 'FAILREG+2'; // the last alarm's code
 const CODE_OF_LAMP = 'FAILREG'; // that of the first one, for which PROG is lit
 const CODES = { 0o1201: 'no VAC area was free', 0o1202: 'no core set was free', 0o1203: 'no place was free in the Waitlist' };
@@ -11,8 +14,8 @@ const SUPERBANK = 0o100; // of the word that core sets keep: banks 30 to 37 are 
 
 const MOST_ALARMS = 8; // that are looked through for the first one
 
-// `darkAt`: the last cycle at which PROG was seen dark while time ran.
-const why = { names: new Set(), banks: {}, pending: null, darkAt: null, isExplained: false };
+// `darkAt`: the last cycle at which PROG was seen dark while time ran; `cycle`: that of the order that the tab explains.
+const why = { names: new Set(), banks: {}, pending: null, darkAt: null, isExplained: false, cycle: null };
 
 // names
 
@@ -84,7 +87,7 @@ async function explainAlarm(cell, search) {
   const code = await alarmCode(cell);
   const alarm = await search(known(ALARMS));
   if (!alarm) return;
-  const call = code in CODES ? await seek(known(CALLS), alarm.cycle) : null;
+  const call = code in CODES ? await seek(known(Object.keys(CALLS)), alarm.cycle) : null;
   const { order } = call || alarm;
   why.pending = { code, cycle: order };
   if (await ask('go', { cycle: order })) showTab('why'); else why.pending = null;
@@ -104,7 +107,8 @@ function followWhy() {
   const isAlarm = isLit('PROG') && !LAMPS.filter(Boolean).every(isLit); // a lamp test lights all
   if (!isAlarm && now.playing) why.darkAt = now.cycle;
   find('alarm').hidden = !isAlarm || !known(ALARMS).length;
-  if (now.playing) why.isExplained = false;
+  if (now.playing || now.cycle !== why.cycle) why.isExplained = false;
+  setText(find('why-stands'), now.cycle === why.cycle ? ' Time stands before this order.' : '');
   if (!why.pending || now.playing) return;
   const { code, cycle } = why.pending;
   if (now.cycle < cycle && !why.pending.isOn) { // the instruments went back to the tick before
@@ -112,8 +116,8 @@ function followWhy() {
     ask('go', { cycle });
   }
   if (now.cycle !== cycle) return;
-  why.pending = null;
-  why.isExplained = true;
+  Object.assign(why, { pending: null, isExplained: true, cycle });
+  setText(find('why-stands'), ' Time stands before this order.');
   showCause(code, cycle);
   showSets((shown.tables || []).filter((line) => line.startsWith('SET ')));
   showStolen(cycle);
@@ -127,7 +131,9 @@ function showCause(code, cycle) {
   const reason = CODES[code] ? `${alarm}: ${CODES[code]}.` : `${alarm}.`;
   const place = name || shown.machine.next.split(' ')[0];
   const seconds = (cycle / CYCLES_A_SECOND).toFixed(3);
-  setText(find('why-text'), `${reason} ${place} called ${Number.isNaN(called) ? order : nameOf(called, 0)} at ${seconds} s, cycle ${grouped(cycle)}. Time stands before this order.`);
+  const routine = Number.isNaN(called) ? order : nameOf(called, 0);
+  const wish = CALLS[routine] ? `, for it wants ${CALLS[routine]},` : '';
+  setText(find('why-text'), `${reason} ${place} called ${routine}${wish} at ${seconds} s, cycle ${grouped(cycle)}.`);
 }
 
 function showSets(lines) {
@@ -138,8 +144,15 @@ function showSets(lines) {
   });
   find('why-sets').replaceChildren(...rows);
   const used = lines.filter((line) => !line.endsWith('FREE')).length;
-  const says = used ? `${used} of ${lines.length} core sets are in use, by these jobs:` : `None of the ${lines.length} core sets is in use.`;
+  const says = used ? `${used} of ${lines.length} core sets are in use, by these jobs${crowdOf(rows)}:` : `None of the ${lines.length} core sets is in use.`;
   setText(find('why-used'), lines.length ? says : '');
+}
+
+// Returns which job stands in most of the sets, if it stands in more than two.
+function crowdOf(rows) {
+  const names = rows.map((row) => row.children[2].textContent).filter((name) => name !== 'free');
+  const [name, count] = names.map((each) => [each, names.filter((other) => other === each).length]).reduce((one, other) => (other[1] > one[1] ? other : one), ['', 0]);
+  return count > 2 ? `, ${count} times ${name}` : '';
 }
 
 // Counts the cycles that pulses of counters took in the second before.
@@ -158,9 +171,10 @@ async function showStolen(cycle) {
   }
   const all = Object.entries(counts).sort(([, one], [, other]) => other - one);
   const sum = all.reduce((total, [, count]) => total + count, 0);
-  const each = all.map(([counter, count]) => `${grouped(count)} of counter ${counter}${COUNTERS[parseInt(counter, 8)] ? ` (${COUNTERS[parseInt(counter, 8)]})` : ''}`);
+  const nameOfCounter = (counter) => (COUNTERS[parseInt(counter, 8)] ? `${COUNTERS[parseInt(counter, 8)]}, counter ${counter}` : `counter ${counter}`);
+  const each = all.map(([counter, count]) => `${grouped(count)} (${nameOfCounter(counter)})`);
   const share = ((100 * sum) / CYCLES_A_SECOND).toFixed(1);
-  setText(find('why-stolen'), sum ? `In the second before, pulses took ${grouped(sum)} of ${grouped(Math.round(CYCLES_A_SECOND))} cycles (${share} %): ${each.join(', ')}.` : '');
+  setText(find('why-stolen'), sum ? `In the second before, pulses took ${grouped(sum)} of ${grouped(Math.round(CYCLES_A_SECOND))} cycles (${share} %): ${each.join('; ')}.` : '');
 }
 
 function buildWhy() {
