@@ -39,6 +39,17 @@ LONG    DEC     16383
 ON      OCT     2
 OFF     OCT     0
 '''
+FAULTS = (
+    ('        SETLOC  4000\n        CA      OM\nON      OCT     2\n', [[2, 'unknown name `OM`; did you mean `ON`?']]),
+    ('        SETLOC  4000\n        ca      4000\n', [[2, 'unknown order or directive `ca`; did you mean `CA`? Orders and directives are in capitals.']]),
+    ('        SETLOC  4000\nlighten\n   lights on\n', [[3, 'unknown order or directive `lights`; did you mean `LXCH`? Orders and directives are in capitals.']]),
+    ('        SETLOC  4000\n        CA\n        WRITE   11\n', [
+        [2, 'the operand is missing, superfluous or malformed: `CA` has no operand'],
+        [3, 'this order is an extracode: write EXTEND before it: `WRITE` is an extracode']]),
+    ('        SETLOC  4000\n        CA      é\n', [[2, 'a byte of this line is neither a tab nor printable ASCII: `\\303\\251` has a byte that is neither a tab nor printable ASCII']]),
+)
+"""Texts, and what the page says of their lines."""
+STILL = 'The machine still has the program woven before.'
 MARKS = "[...document.querySelectorAll('#source-marks p')].map((each) => [Number(each.dataset.line), each.textContent])"
 
 
@@ -55,12 +66,11 @@ def started():
 
 
 def woven(text):
-    """Weaves a text by agc-study: the rope, the names, the listing, and the faults as line and text."""
+    """Weaves a text by agc-study: the rope, the names, the listing, and the lines with faults."""
     source, names = file_of('source', text.encode()), os.path.join(LocalPage.folder(), 'names')
     done = subprocess.run([STUDY, 'weave', source, '--write-names', names, '--force'], capture_output=True)
     if done.returncode:
-        said = re.findall(r'^agc-study: text line (\d+)(?:, column \d+)?: (.*)$', done.stderr.decode(), re.MULTILINE)
-        return None, None, None, [[int(line), why] for line, why in said]
+        return None, None, None, [int(line) for line in re.findall(r'^agc-study: text line (\d+)', done.stderr.decode(), re.MULTILINE)]
     rope = file_of('woven', done.stdout)
     listing = subprocess.run([STUDY, 'list', rope, '--names', names], capture_output=True, text=True, check=True).stdout
     with open(names) as file:
@@ -117,8 +127,8 @@ def try_fault(page, first):
     faulty = first.replace('WRITE   LAMPS', 'WRITTE  LAMPS')
     line = faulty[:faulty.index('WRITTE')].count('\n') + 1
     write(page, faulty)
-    wanted = woven(faulty)[3]
-    judge('agc-study finds it at that line', [line], [at for at, _ in wanted])
+    judge('agc-study finds it at that line', [line], woven(faulty)[3])
+    wanted = [[line, 'unknown order or directive `WRITTE`; did you mean `WRITE`?']]
     judge('the fault is shown', wanted, page.see(MARKS, wanted))
     where = page.value("""(() => {
         const top = (selector) => document.querySelector(selector).getBoundingClientRect().top;
@@ -133,6 +143,27 @@ def try_fault(page, first):
     judge('nothing runs, and the line is chosen', ('WRITTE', 'paused', 0), ((page.see(f'({selected}).trim().slice(0, 6)', 'WRITTE'), page.text('state'), page.cycle())))
     write(page, first)
     judge('the fault has gone', [], page.see(MARKS, []))
+
+
+def try_faults():
+    """A fault is shown with its word, the nearest name and what else helps; what the machine has meanwhile is said."""
+    page = started()
+    page.click('#write-button')
+    page.see("find('rope').textContent", 'First program')
+    said = "find('source-said').textContent"
+    for text, wanted in FAULTS:
+        write(page, text)
+        judge(f'{text!r}: its faults', wanted, page.see(MARKS, wanted, 30))
+        judge(f'{text!r}: agc-study finds them there', [line for line, _ in wanted], woven(text)[3])
+        count = '1 fault' if len(wanted) == 1 else f'{len(wanted)} faults'
+        judge(f'{text!r}: the machine has the first program', f'{count}. {STILL}', page.value(said))
+    write(page, BLINK)
+    words = 'No fault: 17 words, not counting those that are 0.'
+    judge('18 words, of which one is 0', words, page.see(said, words, 30))
+    page.value("openExample('verbs').then(() => showTab('source'))")
+    write(page, FAULTS[0][0])
+    judge('the machine has no woven program', '1 fault.', page.see(said, '1 fault.', 30))
+    page.close()
 
 
 def try_blink():
@@ -263,7 +294,8 @@ def try_source_files():
         document.body.dispatchEvent(new DragEvent('drop', {{ dataTransfer: data, bubbles: true, cancelable: true }}));
     }})()""")
     judge('a file that is dropped', MARKUP, page.see("find('source').value", MARKUP))
-    judge('its faults', woven(MARKUP)[3], page.see(MARKS, woven(MARKUP)[3]))
+    lines = f'({MARKS}).map(([line]) => line)'
+    judge('its faults', woven(MARKUP)[3], page.see(lines, woven(MARKUP)[3]))
     judge('they are texts', 0, page.value("document.querySelectorAll('#source-panel img, #source-panel script').length + (window.ran ?? 0)"))
     page.click('#source-back')
     judge('the text before', BLINK, page.value("find('source').value"))
@@ -335,4 +367,4 @@ def try_without():
 HAS_ASSEMBLER = os.path.exists(os.path.join(TOP, 'prebuilt', 'wasm32', 'agc-study.wasm'))
 if not HAS_ASSEMBLER:
     print('skipped: the tab Source, because ports/build wasm32 has not made its assembler yet')
-TRIES = (try_without, try_offered) if not HAS_ASSEMBLER else (try_without, try_offered, try_guided, try_written, try_blink, try_sources, try_source_kept, try_source_files, try_source_link)
+TRIES = (try_without, try_offered) if not HAS_ASSEMBLER else (try_without, try_offered, try_guided, try_written, try_faults, try_blink, try_sources, try_source_kept, try_source_files, try_source_link)

@@ -8,10 +8,12 @@ const SOURCE_STORE = 'agc.source';
 const CHECK_AFTER = 400; // milliseconds after the last change
 const COLUMNS = 8; // between two stops of the tab key
 const FAULT = /^agc-study: (?:text|source) line (\d+)(?:, column \d+)?: (.*)$/;
+const UNKNOWN_ORDER = /^unknown order or directive `[^`]*[a-z][^`]*`/; // with a lower-case letter
 const NOTHING_WRITTEN = { name: '', text: '', example: null };
 
-// The text that is shown: `before` is the one whose place it took, `example` the one of SOURCES from which it came.
-const writing = { ...NOTHING_WRITTEN, before: null, faults: [], woven: null, run: null, timer: null, isChecking: false, isStale: false, isFull: false };
+// The text that is shown: `before` is the one whose place it took, `example` the one of SOURCES from which it came. `run` is the text
+// that was woven last, `files` those of its session.
+const writing = { ...NOTHING_WRITTEN, before: null, faults: [], woven: null, run: null, files: null, timer: null, isChecking: false, isStale: false, isFull: false };
 
 const sourceText = () => find('source').value;
 const written = () => ({ name: find('source-name').value.trim() || 'program', text: sourceText(), example: writing.example });
@@ -19,12 +21,32 @@ const written = () => ({ name: find('source-name').value.trim() || 'program', te
 // what is woven
 
 // Returns the faults and remarks of what the assembler said: {line, text}, line 0 if it names none.
-function faultsIn(said) {
+function faultsIn({ said, explained = '' }) {
   const lines = said.split('\n').filter((line) => line && !line.startsWith('agc-study: faults: '));
+  const reasons = reasonsIn(explained);
   return lines.map((line) => {
     const [, number, text] = line.match(FAULT) ?? [line, 0, line.replace('agc-study: ', '')];
-    return { line: Number(number), text };
+    return { line: Number(number), text: withReason(text, reasons.get(Number(number))) };
   });
+}
+
+// Returns the reasons of what `agc-study check` explained, by line: of each line its word at fault, and the nearest name.
+function reasonsIn(explained) {
+  const reasons = new Map();
+  let at = 0;
+  for (const line of explained.split('\n')) {
+    at = Number(line.match(/^text line (\d+): /)?.[1] ?? at);
+    const reason = line.match(/^ {4}column \d+: (.*)$/)?.[1];
+    if (reason) reasons.set(at, reason);
+  }
+  return reasons;
+}
+
+// Returns a fault with its reason, which says an unknown name by itself.
+function withReason(text, reason) {
+  if (!reason) return text;
+  const capitals = UNKNOWN_ORDER.test(reason) ? ' Orders and directives are in capitals.' : '';
+  return reason.startsWith('unknown ') ? reason + capitals : `${text.replace(/: `[^`]*`$/, '')}: ${reason}`;
 }
 
 // Weaves the text as it stands, and shows what the assembler says, if it still stands so. Returns the answer, or null.
@@ -34,7 +56,7 @@ async function weaveSource() {
   const woven = await session.weave(text);
   if (text !== sourceText()) return null;
   writing.woven = woven;
-  writing.faults = woven.error ? [{ line: 0, text: woven.error }] : faultsIn(woven.said);
+  writing.faults = woven.error ? [{ line: 0, text: woven.error }] : faultsIn(woven);
   showFaults();
   setText(find('source-said'), text.trim() ? summaryOf(woven) : '');
   followGuide();
@@ -43,10 +65,15 @@ async function weaveSource() {
 
 const counted = (count, one, many) => `${count} ${count === 1 ? one : many}`;
 
+// Whether the machine has a program that was woven here.
+const hasWoven = () => writing.files !== null && session.files === writing.files;
+
+// Says what came of the weaving. The listing leaves out words that are 0.
 function summaryOf(woven) {
-  if (!woven.rope) return counted(writing.faults.length, 'fault', 'faults');
+  const { length } = writing.faults;
+  if (!woven.rope) return `${counted(length, 'fault', 'faults')}.${hasWoven() ? ' The machine still has the program woven before.' : ''}`;
   const words = woven.listing.split('\n').length - 1;
-  return `No fault: ${counted(words, 'word', 'words')}${writing.faults.length ? `, ${counted(writing.faults.length, 'remark', 'remarks')}` : ''}.`;
+  return `No fault: ${counted(words, 'word', 'words')}, not counting those that are 0${length ? `; ${counted(length, 'remark', 'remarks')}` : ''}.`;
 }
 
 // Checks the text soon after its last change; one check at a time.
@@ -80,8 +107,10 @@ async function openWoven() {
   }
   const { guide, at, since } = guiding;
   const done = written();
-  if (!await openAndSay(filesOfSource(done, woven), null, '')) return false;
+  const files = filesOfSource(done, woven);
+  if (!await openAndSay(files, null, '')) return false;
   beginToKeep();
+  writing.files = files;
   const again = guiding.guides.find(({ title }) => title === guide?.title);
   if (again) Object.assign(guiding, { guide: again, at, since });
   writing.run = done.text;
@@ -283,7 +312,7 @@ function writeInSource(text) {
 CLICKS.weave = () => ({ run: () => runSource() });
 CLICKS.find = (text) => (/^\S+$/.test(text) ? { run: () => findInSource(text) } : 'a word of the source');
 CLICKS.write = (text) => (text.includes(' ') ? { run: () => writeInSource(text) } : 'NAME ORDER OPERAND');
-CONDITIONS.woven = () => () => writing.run === sourceText();
+CONDITIONS.woven = () => () => hasWoven() && writing.run === sourceText();
 CONDITIONS.source = (text) => (text ? () => `/ ${codeLines().join(' / ')} /`.includes(`/ ${text} /`) : 'lines of the source, with / between them');
 
 // the area

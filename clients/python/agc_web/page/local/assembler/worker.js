@@ -1,7 +1,8 @@
 // The worker that weaves: agc-study as WebAssembly, on files in memory.
 //
 // The page posts {code}, the bytes of the module, and then {text} for each text. Each text is answered by {status, said, rope,
-// names, listing}: the status of `agc-study weave`, what it said on standard error, and with status 0 what it made.
+// names, listing}: the status of `agc-study weave`, what it said on standard error, and with status 0 what it made; otherwise
+// {status, said, explained}, with what `agc-study check` explains of the faults.
 import { runOnce } from '../../../../../../ports/wasm/once.js';
 
 const [PROGRAM, SOURCE, NAMES, ROPE] = ['agc-study', 'source', 'names', 'rope'];
@@ -11,7 +12,10 @@ let module = null; // a promise of the compiled program
 async function weave(text) {
   const files = new Map([[SOURCE, new TextEncoder().encode(text)]]);
   const { status, out, err } = await runOnce(await module, [PROGRAM, 'weave', SOURCE, '--write-names', NAMES], files);
-  if (status !== 0) return { status, said: err };
+  if (status !== 0) {
+    const checked = await runOnce(await module, [PROGRAM, 'check', '--listing', SOURCE], files);
+    return { status, said: err, explained: new TextDecoder().decode(checked.out) };
+  }
   const names = files.get(NAMES);
   const listed = await runOnce(await module, [PROGRAM, 'list', ROPE, '--names', NAMES], new Map([[ROPE, out], [NAMES, names]]));
   const listing = new TextDecoder().decode(listed.out) + listed.err;

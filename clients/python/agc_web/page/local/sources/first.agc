@@ -2,11 +2,11 @@
 # Make the lamp blink: "The language on one page", under the text, has all that you need.
 
 LAMPS   EQUALS  11          # channel 11: lamps
-        SETLOC  4000        # the computer starts here
+        SETLOC  4000        # the computer starts here; there is room for four words, 4000 to 4003
         CA      ON          # A: the word of the lamp
         EXTEND              # WRITE is an extracode
         WRITE   LAMPS       # A to the lamps
-WAIT    TCF     WAIT        # a program never stops: it waits
+WAIT    TCF     WAIT        # a program never stops: it waits. This is word 4003; a longer program goes on at 4060
 
 # At an interrupt the computer goes to one of these places. Here each goes back at once.
         SETLOC  4004
