@@ -9,11 +9,13 @@ import os
 
 from agc import Console, Refused
 from craft import (
-    APPROACH, BEFORE_HIGH_GATE, BRAKING, DRY, HIGH_GATE, LOADED, climbs_away, craft_of, fault_at, finite, fly, key_at, refusal,
+    APPROACH, ASCENT_FUEL, BEFORE_HIGH_GATE, BRAKING, DRY, HIGH_GATE, LOADED, abort_has_ended, craft_of, fault_at, finite, fly, key_at,
+    refusal,
 )
 
 INPUTS = [
-    "seed", "height", "way", "forward", "down", "braking", "fuel", "loaded_height", "loaded_mass", "faults", "keys", "restarts",
+    "seed", "height", "way", "forward", "down", "braking", "fuel", "ascent_fuel", "loaded_height", "loaded_mass", "faults", "keys",
+    "restarts",
 ]
 """The columns of a table of flights."""
 
@@ -80,7 +82,7 @@ def restarts_of(text):
 
 
 READERS = {
-    **{name: number for name in ("height", "way", "forward", "down", "fuel", "loaded_height", "loaded_mass")},
+    **{name: number for name in ("height", "way", "forward", "down", "fuel", "ascent_fuel", "loaded_height", "loaded_mass")},
     "seed": whole, "braking": yes_or_no, "faults": listed(fault_at), "keys": listed(key_at), "restarts": restarts_of,
 }
 
@@ -95,7 +97,7 @@ def flight_of(row):
                 setattr(flight, name, READERS[name](text))
         except ValueError as error:
             raise ValueError(f"{name}: {error}") from None
-    defaults = {"seed": 1, "fuel": LOADED - DRY, "faults": [], "keys": []}
+    defaults = {"seed": 1, "fuel": LOADED - DRY, "ascent_fuel": ASCENT_FUEL, "faults": [], "keys": []}
     for name, value in {**(BEFORE_HIGH_GATE if flight.braking else HIGH_GATE), **defaults}.items():
         if getattr(flight, name) is None:
             setattr(flight, name, value)
@@ -177,7 +179,7 @@ def end_of(agc, craft, refused):
         return "landed" if craft.landed() else "crashed"
     if refused:
         return "refused"
-    return "aborted" if climbs_away(agc, craft) else "unfinished"
+    return "aborted" if craft.in_orbit() and abort_has_ended(agc, craft) else "unfinished"
 
 
 def flown(flight, rope, names, program, script):
@@ -196,7 +198,7 @@ def flown(flight, rope, names, program, script):
         text = agc.script()
         alarms = [f"{code:05o}" for code in agc.cells("FAILREG", 3) if code]
         results = [end_of(agc, craft, refused), agc.panel()["PROG"], " ".join(alarms), *touchdown_of(craft)]
-        results += [f"{craft.mass - DRY:.1f}", f"{seconds:.2f}", str(agc.cycle), str(len(text.splitlines()))]
+        results += [f"{craft.fuel():.1f}", f"{seconds:.2f}", str(agc.cycle), str(len(text.splitlines()))]
         results += [hashlib.sha256(text.encode()).hexdigest()[:12], str(agc.count), *agc.last, *at, " ".join(track.found)]
         return results, text
 

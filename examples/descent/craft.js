@@ -14,6 +14,7 @@ const RATE_SWITCH = 0o16;
 const CONTACT = 0o30;
 const HAND_CONTROLLER = 0o31;
 const THROTTLE = 0o42;
+const STAGING = 0o43;
 const ENGINE_ON = 1 << 12;
 const KEYRUPT2 = 6;
 const DOWNRUPT = 8;
@@ -23,9 +24,11 @@ const ALTITUDE = 0o17; // what bits 1 to 4 of channel 13 want of the radar
 const FORWARD_SPEED = 0o16;
 const UPWARD_SPEED = 0o14;
 
-const GRAVITY = 1.62; // m/s/s
+const GRAVITY = 1.62; // m/s/s, on the ground
+const MOON = 1737400; // m, from its middle to the site
 const EXHAUST = 3050; // m/s
-const PULSE = 0.0585; // m/s, of an accelerometer
+const PULSE = 0.0585; // m/s, of an accelerometer,
+const COARSE = 0.234; // and in its coarse range, for a script has no room for more pulses
 const FASTEST = { [PIPAX]: 32, [PIPAZ]: 32, [CDUY]: 64 }; // pulses that an instrument sends in a hundredth of a second at most
 const RADIAN = PI / 180;
 const DEGREE = 32768 / 360; // pulses of CDUY
@@ -34,11 +37,14 @@ const LAG = 0.2; // seconds, of the engine
 const FULL = 45000; // N
 const DRY = 6500; // kg, without fuel
 const LOADED = 8500; // kg, with all of it
+const ASCENT_DRY = 2350; // kg, of the ascent stage without fuel
+const ASCENT_FUEL = 2350; // kg
+const ASCENT_THRUST = 15600; // N: this engine has no throttle
+const HIGHEST = 4095; // m: the radar sees no ground from above
 const LEG = 0.2; // m: a leg's probe touches the ground so high up
 const LIMITS = [1.5, 0.6, 3]; // of a landing: m/s down, m/s forward or back, degrees
 
 const ABORT = 'VERB 3 7 ENTR 7 0 ENTR'.split(' '); // what the button for it types
-const ABORTED = 10; // m/s up: no landing climbs so fast
 const WATCHES = 'VERB 1 6 NOUN 6 8 ENTR'.split(' '); // the crew watches the range, which takes time of the computer
 const RENDEZVOUS = 0o36; // counts the rendezvous radar's angle
 const PULSES = 65; // of it in a hundredth of a second, each a cycle
@@ -69,6 +75,7 @@ export class Craft {
     this.knownUp = -down + noise.between(-1, 1);
     Object.assign(this, { wanted: 0, answered: 0 });
     Object.assign(this, { thrust: 25500, command: 25500, jets: 0, engine: false, flying: false, touched: null, contact: false });
+    Object.assign(this, { dry: DRY, ascentFuel: ASCENT_FUEL, staged: false, pulse: PULSE });
     this.seconds = 0;
     this.lost = null; // the second since which the landing radar is lost
     this.counted = { [PIPAX]: 0, [PIPAZ]: 0 };
@@ -84,12 +91,55 @@ export class Craft {
   }
 
   // Takes the words of channels that the computer has written.
-  take(jets, throttle, lamps, radar) {
+  take(jets, throttle, lamps, radar, staging) {
     this.jets = jets;
     this.wanted = radar & 0o17;
     this.command = 4 * throttle;
     this.engine = Boolean(lamps & ENGINE_ON);
     this.flying = this.flying || this.engine;
+    this.stage(staging);
+    this.coarsen(staging);
+  }
+
+  // Drops the descent stage, if bit 1 says so. The ascent stage has an engine and fuel of its own.
+  stage(word) {
+    if (word & 1 && !this.staged) Object.assign(this, { staged: true, thrust: 0, dry: ASCENT_DRY, mass: ASCENT_DRY + this.ascentFuel });
+  }
+
+  // Gives the accelerometers their coarse range, if bit 2 says so. What is not yet a pulse is kept.
+  coarsen(word) {
+    if (!(word & 2) || this.pulse !== PULSE) return;
+    this.pulse = COARSE;
+    for (const counter of [PIPAX, PIPAZ]) {
+      this.counted[counter] -= this.sent[counter] * PULSE;
+      this.sent[counter] = 0;
+    }
+  }
+
+  fuel() {
+    return this.mass - this.dry;
+  }
+
+  // Gravity, less what the forward speed makes up for.
+  pull() {
+    const radius = MOON + this.height;
+    return GRAVITY * (MOON / radius) * (MOON / radius) - (this.forward * this.forward) / radius;
+  }
+
+  // The heights of apolune and perilune in m, by Kepler's laws.
+  orbit() {
+    const radius = MOON + this.height;
+    const moon = GRAVITY * MOON * MOON;
+    const swept = radius * this.forward;
+    const energy = (this.forward * this.forward + this.up * this.up) / 2 - moon / radius;
+    const eccentricity = Math.sqrt(Math.max(0, 1 + (2 * energy * swept * swept) / (moon * moon)));
+    const middle = -moon / (2 * energy);
+    return [middle * (1 + eccentricity) - MOON, middle * (1 - eccentricity) - MOON];
+  }
+
+  // Whether the engine is off in an orbit that does not come to the ground.
+  isInOrbit() {
+    return this.flying && !this.engine && !this.touched && this.orbit()[1] > 0;
   }
 
   // Moves for a hundredth of a second. The craft is held until its engine is on for the first time.
@@ -109,8 +159,9 @@ export class Craft {
     this.counted[PIPAX] += up * STEP;
     this.turning += TURNING * ((this.jets & 1 ? 1 : 0) - (this.jets & 2 ? 1 : 0)) * STEP;
     this.tilt += this.turning * STEP;
-    this.forward += along * STEP;
-    this.up += (up - GRAVITY) * STEP;
+    const pull = this.pull();
+    this.forward += (along - (this.forward * this.up) / (MOON + this.height)) * STEP;
+    this.up += (up - pull) * STEP;
     this.way -= this.forward * STEP;
     this.height += this.up * STEP;
     if (this.height <= 0) this.touch();
@@ -118,10 +169,11 @@ export class Craft {
 
   // The engine follows its command with a lag, and burns fuel while there is some.
   burn() {
-    const wanted = this.engine ? this.command : 0;
+    const full = this.staged ? ASCENT_THRUST : this.command;
+    const wanted = this.engine ? full : 0;
     this.thrust += ((wanted - this.thrust) * STEP) / LAG;
     this.mass -= (this.thrust / EXHAUST) * STEP;
-    if (this.mass <= DRY) Object.assign(this, { mass: DRY, thrust: 0 });
+    if (this.mass <= this.dry) Object.assign(this, { mass: this.dry, thrust: 0 });
   }
 
   // The ground stops the craft, and its accelerometers count that.
@@ -134,7 +186,7 @@ export class Craft {
 
   // Sends the pulses since the last call.
   sendPulses(agc) {
-    const now = [[PIPAX, Math.floor(this.counted[PIPAX] / PULSE)], [PIPAZ, Math.floor(this.counted[PIPAZ] / PULSE)], [CDUY, this.angle()]];
+    const now = [[PIPAX, Math.floor(this.counted[PIPAX] / this.pulse)], [PIPAZ, Math.floor(this.counted[PIPAZ] / this.pulse)], [CDUY, this.angle()]];
     for (const [counter, value] of now) {
       const more = Math.max(-FASTEST[counter], Math.min(FASTEST[counter], value - this.sent[counter]));
       this.sent[counter] += more;
@@ -145,7 +197,7 @@ export class Craft {
 
   // The radar's word, once for each change of what channel 13 wants; null without one.
   radar() {
-    if (this.wanted === this.answered || this.isLost() || !this.flying || this.touched) return null;
+    if (this.wanted === this.answered || this.isLost() || !this.flying || this.touched || this.height > HIGHEST) return null;
     this.answered = this.wanted;
     if (this.wanted === ALTITUDE) {
       const seen = this.height + this.noise.normal(0.3 + 0.005 * Math.abs(this.height));
@@ -203,11 +255,18 @@ function report(agc, craft, step) {
   if (step % 10 === 0) agc.raise(DOWNRUPT);
 }
 
+// The orbit that ends an abort, or nothing.
+function orbitInWords(craft) {
+  if (!craft.isInOrbit()) return '';
+  const [apolune, perilune] = craft.orbit();
+  return `Aborted: orbit of ${(apolune / 1000).toFixed(0)} by ${(perilune / 1000).toFixed(0)} km`;
+}
+
 // How the flight has ended in words and whether that is good; nothing before the end.
 function outcome(craft) {
-  const isOut = craft.mass <= DRY;
-  const climbs = craft.up > ABORTED ? `Aborted: ${craft.up.toFixed(0)} m/s up, ${craft.height.toFixed(0)} m high` : '';
-  if (!craft.touched) return { text: isOut ? 'Out of fuel' : climbs, good: false };
+  const isOut = craft.mass <= craft.dry;
+  // the descent stage alone is not the end
+  if (!craft.touched) return { text: orbitInWords(craft) || (isOut && craft.staged ? 'Out of fuel' : ''), good: false };
   const [up, forward, tilt, way] = craft.touched;
   const place = `${Math.abs(way).toFixed(0)} m from the site`;
   const found = [[-up, 'm/s down'], [Math.abs(forward), 'm/s sideways'], [Math.abs(tilt), 'degrees of tilt']];
@@ -224,7 +283,7 @@ function flightOf(craft) {
   return {
     x: -craft.way, height: Math.max(0, craft.height), forward: craft.forward, up: craft.up, tilt: craft.tilt,
     throttle: moves ? craft.thrust / FULL : 0, jets: [(craft.jets & 1) > 0, (craft.jets & 2) > 0],
-    pulls: [push * sine, push * cosine - GRAVITY], isOver: !moves,
+    pulls: [push * sine, push * cosine - craft.pull()], isOver: !moves,
   };
 }
 
@@ -234,7 +293,7 @@ const signed = (value, digits) => `${fixed(value, digits).startsWith('-') ? '' :
 
 // The craft as an instrument. The user presses the keys: V37E, 64E, then PRO.
 export class Instrument {
-  reads = [JETS, THROTTLE, LAMPS, RADAR];
+  reads = [JETS, THROTTLE, LAMPS, RADAR, STAGING];
   #machine = null;
   #next = null; // the craft of a flight that begins anew
 
@@ -263,7 +322,7 @@ export class Instrument {
     const { craft } = this;
     if (this.ticks === 0) load(agc, craft);
     this.ticks += 1;
-    craft.take(agc.channel(JETS), agc.channel(THROTTLE), agc.channel(LAMPS), agc.channel(RADAR));
+    craft.take(agc.channel(JETS), agc.channel(THROTTLE), agc.channel(LAMPS), agc.channel(RADAR), agc.channel(STAGING));
     craft.step();
     report(agc, craft, this.ticks);
     this.rendezvous(agc);
@@ -369,7 +428,7 @@ export class Instrument {
         ['To the site', `${fixed(craft.way, 0)} m`],
         ['Tilt', `${signed(degrees(craft.tilt), 1)}°`],
         ['Thrust', craft.engine ? `${((100 * craft.thrust) / FULL).toFixed(0)} %` : 'engine off'],
-        ['Fuel', `${(craft.mass - DRY).toFixed(0)} kg`],
+        ['Fuel', `${craft.fuel().toFixed(0)} kg`],
         ['Landing radar', craft.isLost() ? 'lost' : 'on'],
         ['Rendezvous radar', this.radarWords()],
       ],

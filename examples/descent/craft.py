@@ -1,7 +1,7 @@
 #!/usr/bin/env python3
 """A lunar lander in lockstep with agc-console, which runs the rope beside this file.
 
-The craft is a point mass with one angle in a vertical plane over a flat Moon. Every hundredth of a second of machine
+The craft is a point mass with one angle in a vertical plane over a Moon that is a ball. Every hundredth of a second of machine
 time it takes what the computer has written (jets, throttle, engine), moves, and gives back what the computer's
 instruments count: pulses of the two accelerometers and of the tilt's encoder, and what the landing radar measures. Neither
 side looks at a clock, so each flight is the same every time. The erasable load, the keys of the crew and the downlink's
@@ -28,14 +28,17 @@ SECOND = 256000 / 3  # cycles
 STEP = 0.01  # seconds
 
 PIPAX, PIPAZ, CDUY, RNRAD = 0o37, 0o41, 0o33, 0o46
-JETS, LAMPS, RADAR, RATE_SWITCH, CONTACT, HAND_CONTROLLER, THROTTLE = 0o5, 0o11, 0o13, 0o16, 0o30, 0o31, 0o42
+JETS, LAMPS, RADAR, RATE_SWITCH, CONTACT, HAND_CONTROLLER = 0o5, 0o11, 0o13, 0o16, 0o30, 0o31
+THROTTLE, STAGING = 0o42, 0o43
 ENGINE_ON = 1 << 12
 KEYRUPT2, DOWNRUPT, RADARUPT, RUPT10 = 6, 8, 9, 10
 ALTITUDE, FORWARD_SPEED, UPWARD_SPEED = 0o17, 0o16, 0o14  # what bits 1 to 4 of channel 13 want of the radar
 
-GRAVITY = 1.62  # m/s/s
+GRAVITY = 1.62  # m/s/s, on the ground
+MOON = 1737400.0  # m, from its middle to the site
 EXHAUST = 3050.0  # m/s
-PULSE = 0.0585  # m/s, of an accelerometer
+PULSE = 0.0585  # m/s, of an accelerometer,
+COARSE = 0.234  # and in its coarse range, for a script has no room for more pulses
 FASTEST = {PIPAX: 32, PIPAZ: 32, CDUY: 64}  # pulses that an instrument sends in a hundredth of a second at most
 RADIAN = 3.141592653589793 / 180
 DEGREE = 32768 / 360  # pulses of CDUY
@@ -44,9 +47,12 @@ LAG = 0.2  # seconds, of the engine
 FULL = 45000.0  # N
 DRY = 6500.0  # kg, without fuel
 LOADED = 8500.0  # kg, with all of it
+ASCENT_DRY = 2350.0  # kg, of the ascent stage without fuel
+ASCENT_FUEL = 2350.0  # kg
+ASCENT_THRUST = 15600.0  # N: this engine has no throttle
+HIGHEST = 4095.0  # m: the radar sees no ground from above
 LEG = 0.2  # m: a leg's probe touches the ground so high up
-CLIMB = 30.0  # m/s: an aborted flight is shown until it climbs so fast
-ABORTED = 10.0  # m/s up: no landing climbs so fast
+ORBITS = 5.0  # seconds that a flight goes on in orbit, or without fuel
 LIMITS = (1.5, 0.6, 3.0)  # of a landing: m/s down, m/s forward or back, degrees
 CLICKS = {
     "ROD+": (RATE_SWITCH, 0o40, 0, KEYRUPT2),
@@ -57,7 +63,7 @@ CLICKS = {
 """Clicks of the switch for the rate of descent and of the hand controller: channel, its word then and afterwards, interrupt."""
 KEYS = (*"0123456789+-", "VERB", "NOUN", "ENTR", "CLR", "RSET", "KEYREL", "PRO", *CLICKS)
 HELD = 20  # hundredths of a second in which PRO and clicks are held
-FAULTS = ("radar", "forward-jet", "back-jet", "engine")
+FAULTS = ("radar", "forward-jet", "back-jet", "engine", "ascent-engine")
 
 
 class Craft:
@@ -79,10 +85,12 @@ class Craft:
         self.jets = 0
         self.engine = False
         self.flying = False
+        self.dry, self.ascent_fuel, self.staged = DRY, ASCENT_FUEL, False
         self.touched = None
         self.contact = False
         self.seconds = 0.0
         self.faults = []
+        self.pulse = PULSE
         self.counted = {PIPAX: 0.0, PIPAZ: 0.0}
         self.sent = {PIPAX: 0, PIPAZ: 0, CDUY: self.angle()}
 
@@ -101,6 +109,9 @@ class Craft:
             self.command = 4.0 * write.value
         elif write.channel == RADAR:
             self.wanted = write.value & 0o17
+        elif write.channel == STAGING:
+            self.stage(write.value)
+            self.coarsen(write.value)
         elif write.channel == LAMPS:
             self.engine = bool(write.value & ENGINE_ON)
             self.flying = self.flying or self.engine
@@ -125,21 +136,59 @@ class Craft:
             back_jet = self.jets & 2 or self.fails("back-jet")
             self.turning += TURNING * (bool(forward_jet) - bool(back_jet)) * STEP
         self.tilt += self.turning * STEP
-        self.forward += along * STEP
-        self.up += (up - GRAVITY) * STEP
+        pull = self.pull()
+        self.forward += (along - self.forward * self.up / (MOON + self.height)) * STEP
+        self.up += (up - pull) * STEP
         self.way -= self.forward * STEP
         self.height += self.up * STEP
         if self.height <= 0:
             self.touch()
 
+    def pull(self):
+        """Gravity, less what the forward speed makes up for."""
+        radius = MOON + self.height
+        return GRAVITY * (MOON / radius) * (MOON / radius) - self.forward * self.forward / radius
+
+    def stage(self, word):
+        """Drops the descent stage, if bit 1 says so. The ascent stage has an engine and fuel of its own."""
+        if word & 1 and not self.staged:
+            self.staged, self.thrust = True, 0.0
+            self.dry, self.mass = ASCENT_DRY, ASCENT_DRY + self.ascent_fuel
+
+    def coarsen(self, word):
+        """Gives the accelerometers their coarse range, if bit 2 says so. What is not yet a pulse is kept."""
+        if word & 2 and self.pulse == PULSE:
+            self.pulse = COARSE
+            for counter in self.counted:
+                self.counted[counter] -= self.sent[counter] * PULSE
+                self.sent[counter] = 0
+
+    def fuel(self):
+        """The fuel of the stage in use, in kg."""
+        return self.mass - self.dry
+
+    def orbit(self):
+        """The heights of apolune and perilune in m, by Kepler's laws."""
+        radius, moon = MOON + self.height, GRAVITY * MOON * MOON
+        swept = radius * self.forward
+        energy = (self.forward * self.forward + self.up * self.up) / 2 - moon / radius
+        eccentricity = math.sqrt(max(0.0, 1 + 2 * energy * swept * swept / (moon * moon)))
+        middle = -moon / (2 * energy)
+        return middle * (1 + eccentricity) - MOON, middle * (1 - eccentricity) - MOON
+
+    def in_orbit(self):
+        """Whether the engine is off in an orbit that does not come to the ground."""
+        return self.flying and not self.engine and not self.touched and self.orbit()[1] > 0
+
     def burn(self):
         """The engine follows its command with a lag, and burns fuel while there is some."""
-        fails = self.faults and self.fails("engine")
-        wanted = self.command if self.engine and not fails else 0.0
+        fails = self.faults and self.fails("ascent-engine" if self.staged else "engine")
+        full = ASCENT_THRUST if self.staged else self.command
+        wanted = full if self.engine and not fails else 0.0
         self.thrust += (wanted - self.thrust) * STEP / LAG
         self.mass -= self.thrust / EXHAUST * STEP
-        if self.mass <= DRY:
-            self.mass, self.thrust = DRY, 0.0
+        if self.mass <= self.dry:
+            self.mass, self.thrust = self.dry, 0.0
 
     def touch(self):
         """The ground stops the craft, and its accelerometers count that."""
@@ -157,7 +206,7 @@ class Craft:
 
     def pulses(self):
         """The pulses since the last call: counter, kind and how many."""
-        up, forward = math.floor(self.counted[PIPAX] / PULSE), math.floor(self.counted[PIPAZ] / PULSE)
+        up, forward = math.floor(self.counted[PIPAX] / self.pulse), math.floor(self.counted[PIPAZ] / self.pulse)
         counts = {PIPAX: up, PIPAZ: forward, CDUY: self.angle()}
         if counts == self.sent:  # in every third step
             return
@@ -171,7 +220,7 @@ class Craft:
 
     def radar(self):
         """The radar's word, once for each change of what channel 13 wants; None without one."""
-        if self.wanted == self.answered or self.fails("radar") or not self.flying or self.touched:
+        if self.wanted == self.answered or self.fails("radar") or not self.flying or self.touched or self.height > HIGHEST:
             return None
         self.answered = self.wanted
         if self.wanted == ALTITUDE:
@@ -247,14 +296,14 @@ def release(agc, key):
         agc.input(channel, word)
 
 
-def climbs_away(agc, craft):
-    """Whether the flight was aborted, and the craft is on its way up."""
-    return craft.engine and craft.up >= CLIMB and agc.panel()["PROG"] == "70"
+def abort_has_ended(agc, craft):
+    """Whether an abort is over: the craft is in orbit, or the ascent stage is out of fuel."""
+    return (craft.in_orbit() or craft.staged and craft.mass <= craft.dry) and agc.panel()["PROG"] in ("70", "71")
 
 
 def fly(agc, craft, keys=APPROACH, seconds=900, disturb=None):
-    """Flies, and yields the seconds and the writes of each step, up to three seconds after the ground, or until the craft
-    climbs away, or ten seconds after the last key if its engine is not on by then.
+    """Flies, and yields the seconds and the writes of each step, up to three seconds after the ground, or five after the end
+    of an abort, or ten after the last key if the engine is not on by then.
 
     keys says which key comes at which second; disturb is called at each step for what else happens there. The events of a
     step go to the console with the next command."""
@@ -293,8 +342,13 @@ def steps_of(agc, craft, keys, seconds, disturb):
             ended = ended or now
             if now - ended >= 3:
                 return
-        elif step % 100 == 0 and (climbs_away(agc, craft) or not craft.flying and now > last_key + 10):
-            return
+        elif step % 100 == 0:
+            if abort_has_ended(agc, craft):
+                ended = ended or now
+                if now - ended >= ORBITS:
+                    return
+            if not craft.flying and now > last_key + 10:
+                return
 
 
 def touchdown(craft):
@@ -304,18 +358,26 @@ def touchdown(craft):
     return f"{up:+.2f} m/s up, {forward:+.2f} m/s forward, tilt {tilt:+.2f}, {way:+.1f} m to go: {verdict}"
 
 
+def orbit_in_words(craft):
+    """Returns the orbit that ends an abort, or nothing."""
+    if not craft.in_orbit():
+        return ""
+    apolune, perilune = craft.orbit()
+    return f"Aborted: orbit of {apolune / 1000:.0f} by {perilune / 1000:.0f} km"
+
+
 def outcome(craft):
     """Returns how the flight has ended in words and whether that is good, for the page; nothing before the end."""
     if not craft.touched:
-        climbs = f"Aborted: {craft.up:.0f} m/s up, {craft.height:.0f} m high" if craft.up > ABORTED else ""
-        return {"text": "Out of fuel" if craft.mass <= DRY else climbs, "good": False}
+        is_out = craft.staged and craft.mass <= craft.dry  # the descent stage alone is not the end
+        return {"text": orbit_in_words(craft) or ("Out of fuel" if is_out else ""), "good": False}
     up, forward, tilt, way = craft.touched
     place = f"{abs(way):.0f} m from the site"
     if craft.landed():
         return {"text": f"Landed: {-up:.2f} m/s, {place}", "good": True}
     found = ((-up, "m/s down"), (abs(forward), "m/s sideways"), (abs(tilt), "degrees of tilt"))
     why = [f"{value:.2f} {unit}, at most {most:g}" for (value, unit), most in zip(found, LIMITS) if not value < most]
-    return {"text": f"{'Out of fuel' if craft.mass <= DRY else 'Crashed'}: {'; '.join(why)}; {place}", "good": False}
+    return {"text": f"{'Out of fuel' if craft.mass <= craft.dry else 'Crashed'}: {'; '.join(why)}; {place}", "good": False}
 
 
 def flight_of(craft):
@@ -326,7 +388,7 @@ def flight_of(craft):
     return side_view.Flight(
         -craft.way, max(0.0, craft.height), craft.forward, craft.up, craft.tilt,
         craft.thrust / FULL if moves else 0.0, (craft.jets & 1 > 0, craft.jets & 2 > 0),
-        (push * sine, push * cosine - GRAVITY), not moves,
+        (push * sine, push * cosine - craft.pull()), not moves,
     )
 
 
@@ -368,7 +430,7 @@ class Instrument:
             for bank, offset, word in load(self.craft):
                 agc.poke(bank, offset, word)
         self.ticks += 1
-        channels = (JETS, THROTTLE, LAMPS, RADAR)
+        channels = (JETS, THROTTLE, LAMPS, RADAR, STAGING)
         for channel, word in zip(channels, agc.channels(channels)):
             self.craft.take(Write(cycle, channel, word))
         self.craft.step()
@@ -477,7 +539,7 @@ class Instrument:
                 ["To the site", f"{unsigned_zero(craft.way, 0):.0f} m"],
                 ["Tilt", f"{unsigned_zero(tilt, 1):+.1f}°"],
                 ["Thrust", f"{100 * craft.thrust / FULL:.0f} %" if craft.engine else "engine off"],
-                ["Fuel", f"{craft.mass - DRY:.0f} kg"],
+                ["Fuel", f"{craft.fuel():.0f} kg"],
                 ["Landing radar", "lost" if craft.fails("radar") else "on"],
                 ["Rendezvous radar", self.radar_words()],
             ],
@@ -540,7 +602,7 @@ def line_of(now, craft, panel):
     shown = " ".join(panel[name] for name in ("PROG", "VERB", "NOUN", "R1", "R2", "R3"))
     return (
         f"{now:7.1f} {craft.height:7.1f} {craft.up:7.2f} {craft.forward:8.2f} {degrees(craft.tilt):7.2f} "
-        f"{100 * craft.thrust / FULL:6.1f}% {craft.mass - DRY:6.0f}  {shown}"
+        f"{100 * craft.thrust / FULL:6.1f}% {craft.fuel():6.0f}  {shown}"
     )
 
 
@@ -600,7 +662,7 @@ RANGES = {"height": (30, 4000), "way": (0, 15000), "forward": (-20, 180), "down"
 BRAKING_RANGES = {"height": (2500, 4000), "way": (9000, 15500), "forward": (120, 210), "down": (0, 80)}
 """What a flight may start from, by P64 or by P63."""
 
-LOADS = {"seed": (0, SEEDS - 1), "fuel": (0, 2000), "loaded_height": (-16000, 16000), "loaded_mass": (-16000, 16000)}
+LOADS = {"seed": (0, SEEDS - 1), "fuel": (0, 2000), "ascent_fuel": (0, 2350), "loaded_height": (-16000, 16000), "loaded_mass": (-16000, 16000)}
 """What else has a range."""
 
 
@@ -643,6 +705,7 @@ def asked():
     add("--key", action="append", type=key_at, default=[], metavar="SECOND:KEY", help="one more key, as 60:VERB")
     add("--script", default=os.devnull, help="a script whose events happen as well")
     add("--fuel", type=finite, default=LOADED - DRY, help="kg of fuel, 0 to 2000 (2000); the computer is not told")
+    add("--ascent-fuel", type=finite, default=ASCENT_FUEL, help="kg of fuel in the ascent stage, 0 to 2350 (2350)")
     add("--loaded-height", type=finite, metavar="HEIGHT", help="the height in the erasable load, instead of the right one")
     add("--loaded-mass", type=finite, metavar="MASS", help="the mass in the erasable load (8500)")
     add("--fault", action="append", type=fault_at, default=[], metavar="PART:SECOND[:SECONDS]",
@@ -671,6 +734,7 @@ def craft_of(words, seed=None):
     seed = words.seed if seed is None else seed
     craft = Craft(words.height, words.way, words.forward, words.down, seed, words.fuel)
     craft.faults = words.fault
+    craft.ascent_fuel = words.ascent_fuel
     if words.loaded_height is not None:
         craft.known_height = words.loaded_height
     if words.loaded_mass is not None:
@@ -682,9 +746,9 @@ def ending(agc, craft):
     """Returns how the flight ended."""
     if craft.touched:
         return f"on the ground: {touchdown(craft)}"
-    if climbs_away(agc, craft):
-        return f"aborted: {craft.up:+.2f} m/s up at {craft.height:.0f} m"
-    return "not on the ground"
+    if abort_has_ended(agc, craft) and not craft.in_orbit():
+        return f"Aborted: out of fuel, {craft.height / 1000:.1f} km high, {craft.up:+.2f} m/s up, {craft.forward:+.2f} m/s forward"
+    return orbit_in_words(craft) or "not on the ground"
 
 
 def alarm_of(agc):

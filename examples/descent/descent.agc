@@ -2,7 +2,8 @@
 # README.md beside this file says what each bank holds. Numbers of DEC and VN are decimal, all others octal. A comment at
 # a subroutine says what it takes and gives; A and L are lost unless it says something else.
 # Units: lengths 1 m, speeds and time to go 1/64, accelerations 1/1024 m/s/s, mass 1 kg, thrust 4 N, angles 32768 to a
-# turn, steps of time 1/256 s. A second word counts 16384ths of the first one's unit.
+# turn, steps of time 1/256 s. A second word counts 16384ths of the first one's unit. From an abort on, lengths of the
+# state are 32 m and speeds 1/2 m/s.
 
 # ---- channels
 LCHAN   EQUALS  1           # L as a channel
@@ -19,6 +20,7 @@ CHAN32  EQUALS  32          # bit 14 is 0 while PRO is down
 DNWORD1 EQUALS  34          # the downlink's two words
 DNWORD2 EQUALS  35
 THROTTLE EQUALS 42          # the thrust that is commanded, 4 N
+STAGING EQUALS  43          # bit 1: the descent stage is dropped; bit 2: the accelerometers' pulses are coarse, 0.234 m/s
 
 # ---- erasable memory. Banks 0, 1 and 2 are always at hand, bank 3 is in EB from the start on.
         EBANK=  XN
@@ -68,7 +70,7 @@ NPHASE5 ERASE               # and guidance
 PHASE5  ERASE
 AVEGFLG ERASE               # 1 while SERVICER runs each second
 DAPON   ERASE               # 1 while the autopilot is on
-MODREG  ERASE               # the program: 0, 63 to 66, 68, 69 or 70
+MODREG  ERASE               # the program: 0, 63 to 66 or 68 to 71
 PDNOUN  ERASE               # the noun that it shows, or +0
 DIGITS  ERASE   +27         # a fresh start clears this too. The display's digit codes, from R3's last up to PROG's first,
 SIGNS   ERASE   +13         # and what else its rows have: bit 11 a sign, or lamps
@@ -77,7 +79,7 @@ NOUNREG ERASE               # the noun,
 INVAL   ERASE               # and the number that is keyed
 FAILREG ERASE   +2          # alarm codes: the first, the second, and the last, which stays
 RSTI    ERASE
-FLAGWRD1 ERASE              # the flags: V37BIT, LAMPBIT, FUELBIT, SITEBIT. A restart clears the first two
+FLAGWRD1 ERASE              # the flags: V37BIT, LAMPBIT, FUELBIT, SITEBIT, CUTBIT. A restart clears V37BIT, LAMPBIT, CUTBIT
 BUFAL   ERASE   +1          # BANKCALL: A and L on the way there,
 BUFCADR ERASE               # the routine,
 BUFQ    ERASE               # where to go back to,
@@ -163,6 +165,24 @@ UFWD    ERASE               # half of the forward part of one metre along an axi
 UUP     ERASE               # and half of the upward part
 RODCOUNT ERASE              # clicks of the switch for the rate of descent, up is plus,
 REDCOUNT ERASE              # and of the hand controller, forward is plus
+ORBNAV  ERASE               # an abort: 1 once the state is in the units of an orbit,
+STAGED  ERASE               # 1 once the descent stage is dropped,
+ENGCUT  ERASE               # from 1 on once the engine is off in orbit
+PULL    ERASE               # the gravity that is left, less what the speed makes up for, 2 to the -13 m/s/s
+NEWPULL ERASE               # the same at the end of a step
+GHERE   ERASE               # gravity here
+ATOT    ERASE               # the acceleration of the engine
+ORBTGO  ERASE               # time to go, 1/16 s
+ORBTEM  ERASE   +1
+VGODISP ERASE               # for the display: speed to be gained, m/s,
+ALTRATE ERASE               # altitude rate, 0.1 m/s,
+ALTKM   ERASE               # altitude, 0.01 km,
+APOLUNE ERASE               # apolune,
+PERILUNE ERASE              # perilune, 0.1 km,
+SPEEDMS ERASE               # and speed, m/s
+ECCX    ERASE               # eccentricity, upward from the perilune,
+ECC     ERASE               # and all of it
+RHERE   ERASE               # the way to the Moon's middle, 0.2 km
 
 # ---- bank 02: vectors, Executive, Waitlist, interrupts
         SETLOC  4000
@@ -1013,9 +1033,10 @@ LOW10   OCT     1777
 WINDOW  EQUALS  BIT11       # where a switched bank begins
 V37BIT  OCT     1           # verb 37 waits for its program
 LAMPBIT OCT     2           # a lamp test
-RESTBITS OCT    3
+RESTBITS OCT    23
 FUELBIT OCT     4           # the alarm of low fuel came
 SITEBIT OCT     10          # and that of a site out of reach
+CUTBIT  EQUALS  BIT5        # the engine's end is in the Waitlist
 ALLLAMPS OCT    175         # KEY REL, OPR ERR, the flash, and those of a lamp test
 VACMASK OCT     00777
 PRIOMASK OCT    37000
@@ -1685,7 +1706,10 @@ ENTV37  TC      FREEDISP
         AD      LESS4
         EXTEND
         BZF     GOTOP70
-        AD      SEVEN
+        AD      LESS1
+        EXTEND
+        BZF     GOTOP71
+        AD      EIGHT
         EXTEND
         BZF     GOTOP63
         TCF     WRONGKEY
@@ -1703,7 +1727,8 @@ GOTOP64 CCS     AVEGFLG
         TC      PHASCHNG
         OCT     14
         TCF     RESTART
-# P65, P66 and P70, in flight only. P66 begins with the altitude rate of this moment.
+# P65 and P66, in flight and before an abort only. P66 begins with the altitude rate of this moment. P70 and P71, in
+# flight; P70 not after P71, which drops its engine.
 GOTOP65 CA      ZERO
         TS      MPAC
         CA      SIXTY5
@@ -1714,13 +1739,15 @@ GOTOP66 CA      VZ          # 1/64 m/s, into 0.1 m/s
         TS      MPAC
         CA      SIXTY6
         TCF     INFLIGHT
-GOTOP70 CA      ZERO
-        TS      MPAC
-        CA      SEVENTY
 INFLIGHT TS     MPAC +1
         CCS     AVEGFLG
         TCF     +2
         TCF     WRONGKEY    # not on the ground
+        CS      SIXTY9
+        AD      MODREG
+        EXTEND
+        BZMF    +2
+        TCF     WRONGKEY    # nor from an abort
         CA      MPAC
         TS      RODCMD
         CA      ZERO
@@ -1728,6 +1755,22 @@ INFLIGHT TS     MPAC +1
         CA      MPAC +1
         TS      MODREG
         CA      SIXTY
+        TS      PDNOUN
+        TCF     DISPJOB
+GOTOP70 CS      SEVENTY1
+        AD      MODREG
+        EXTEND
+        BZF     WRONGKEY
+        CA      SEVENTY
+        TCF     +2
+GOTOP71 CA      SEVENTY1
+        TS      MPAC +1
+        CCS     AVEGFLG
+        TCF     +2
+        TCF     WRONGKEY
+        CA      MPAC +1
+        TS      MODREG
+        CA      NINETY4
         TS      PDNOUN
         TCF     DISPJOB
 
@@ -1829,10 +1872,14 @@ SIGNROWS DEC    5
 
 # A noun's four words: how many registers can be loaded, and its number; the cells of its registers. A minus is before
 # those in 1/64, which are shown in 1/10.
-NOUNTAB VN      0063        # 63: forward speed, altitude rate, altitude
-        -ADRES  VX
-        -ADRES  VZ
-        ADRES   ZN
+NOUNTAB VN      0044        # 44: apolune, perilune (xxxx.x km), forward speed (m/s)
+        ADRES   APOLUNE
+        ADRES   PERILUNE
+        ADRES   SPEEDMS
+        VN      0094        # 94: speed to be gained (m/s), altitude rate (xxxx.x m/s), altitude (xxx.xx km)
+        ADRES   VGODISP
+        ADRES   ALTRATE
+        ADRES   ALTKM
         VN      0009        # 09: alarm codes, octal
         ADRES   FAILREG
         ADRES   FAILREG +1
@@ -1845,7 +1892,7 @@ NOUNTAB VN      0063        # 63: forward speed, altitude rate, altitude
         ADRES   MASS
         ADRES   PMASS
         ADRES   TMASS
-        VN      0060        # 60: forward speed (xxxx.x m/s), altitude rate (xxxx.x m/s), altitude (m)
+        VN      0063        # 63, and all that follow, until an abort: forward speed, altitude rate, altitude
         -ADRES  VX
         -ADRES  VZ
         ADRES   ZN
@@ -1853,10 +1900,6 @@ NOUNTAB VN      0063        # 63: forward speed, altitude rate, altitude
         -ADRES  TGO
         ADRES   XN
         ADRES   MASS
-        VN      0064        # 64: the landing point's angle (degrees), altitude rate, altitude
-        ADRES   LPDANG
-        -ADRES  VZ
-        ADRES   ZN
         VN      0166        # 66: the rate that the crew commands (xxxx.x m/s), altitude rate, altitude
         ADRES   RODCMD
         -ADRES  VZ
@@ -1869,11 +1912,26 @@ NOUNTAB VN      0063        # 63: forward speed, altitude rate, altitude
         ADRES   RANGE
         -ADRES  TGO
         ADRES   DHM
-NOUNLAST DEC    40          # where the last one begins, and 4
+        VN      0060        # 60: forward speed (xxxx.x m/s), altitude rate (xxxx.x m/s), altitude (m)
+        -ADRES  VX
+        -ADRES  VZ
+        ADRES   ZN
+        VN      0064        # 64: the landing point's angle (degrees), altitude rate, altitude
+        ADRES   LPDANG
+        -ADRES  VZ
+        ADRES   ZN
+NOUNLAST DEC    48          # where the last one begins, and 4
+ORBLAST DEC     20          # the same of the last one that an abort leaves
+SEVENTY1 DEC    71
+NINETY4 DEC     94
 
 # FIND: NNPTR = the place of noun NOUNREG in NOUNTAB, and 4. Without such a noun the key was wrong.
-FIND    CA      NOUNLAST
-        TS      NNPTR
+FINDORB CA      ORBLAST
+        TCF     FIND1
+FIND    CCS     ORBNAV
+        TCF     FINDORB
+        CA      NOUNLAST
+FIND1   TS      NNPTR
         INDEX   NNPTR
         CA      NOUNTAB -4
         MASK    LOW7
@@ -1885,7 +1943,7 @@ FIND    CA      NOUNLAST
         AD      NNPTR
         EXTEND
         BZF     WRONGKEY
-        TCF     FIND +1
+        TCF     FIND1
 FOUND   TC      Q
 LOW7    OCT     177
 
@@ -2044,6 +2102,8 @@ SERV1   TS      TEMA
         DDOUBL
         DDOUBL
         TS      STEPDT
+        CCS     ORBNAV
+        TCF     ORBITS      # an abort works the state on by itself
         CA      USEDX       # a pulse is 0.0585 m/s, 3.744 of our units
         DOUBLE
         EXTEND
@@ -2257,13 +2317,13 @@ SERV2   TS      TEMA
         CA      ZERO
         TS      LSCORR
         RELINT
-# What the law of the program wants, by SWCALL. When fuel is low, the program becomes P70, unless the ground is near.
-GUIDE   CA      TWO
-        TS      PROGNO
-        CS      SEVENTY
+# What the law of the program wants, by SWCALL. When fuel is low, the program becomes P70, unless the ground is near. P70
+# and P71 have a law that steers, too.
+GUIDE   CS      SIXTY9
         AD      MODREG
         EXTEND
-        BZF     GUIDE2
+        BZMF    +2
+        TCF     ABORTS
         CA      FUELBIT
         MASK    FLAGWRD1
         EXTEND
@@ -2286,13 +2346,8 @@ GUIDE3  AD      ONE
         EXTEND
         BZF     +2
         TCF     GUIDE2
-        CA      THREE
+        CA      TWO
         TS      PROGNO
-        TCF     GUIDE2
-ABORT   CA      SEVENTY
-        TS      MODREG
-        CA      SIXTY
-        TS      PDNOUN
 GUIDE2  INDEX   PROGNO
         CA      LAWTAB
         TC      SWCALL
@@ -2394,7 +2449,6 @@ FALL    DEC     .2025       # half of what gravity brings
 RATEGAIN DEC    .64         # 0.04 a second of a quarter metre, in 1/64 m/s
 LAWTAB  CADR    P64LAW      # by PROGNO
         CADR    P66LAW
-        CADR    P70LAW
         CADR    P63LAW
 LESS50  DEC     -50
 LEAST   DEC     6900
@@ -2492,7 +2546,9 @@ P68JOB  TC      BANKCALL
         TS      MODREG
         TC      PHASCHNG
         OCT     23
-P68SHOW CA      SIXTY
+P68SHOW CCS     ORBNAV
+        TCF     P68ORB
+        CA      SIXTY
         TS      PDNOUN
         TC      POSTJUMP
         CADR    DISPJOB
@@ -2500,6 +2556,17 @@ P68AGAIN CA     PRIO30      # after a restart
         TC      NOVAC
         2CADR   P68SHOW
         TC      TASKOVER
+P68ORB  CA      NOUN94
+        TCF     P68SHOW +3
+ABORT   CA      SEVENTY
+        TS      MODREG
+        CA      NOUN94
+        TS      PDNOUN
+ABORTS  TC      POSTJUMP
+        CADR    ABORTLAW
+ORBITS  TC      POSTJUMP
+        CADR    ORBSTEP
+NOUN94  DEC     94
 
 # ---- bank 07: the laws of the programs. Each takes the state, and gives AX and AZ. Called by SWCALL.
         BANK    07
@@ -2689,21 +2756,6 @@ RATELAW EXTEND
         TS      AZ
         TC      LAWQ
 
-# P70, the abort: the craft climbs, to 50 m/s by 3 m/s/s. Once it is at 10 m/s, it goes forward, too, by 1.2 m/s/s.
-P70LAW  EXTEND
-        QXCH    PROGQ
-        CA      CLIMB
-        TC      RATELAW
-        CA      ZERO
-        TS      AX
-        CS      VZ
-        AD      CLIMB1
-        EXTEND
-        BZMF    +2
-        TCF     LAWDONE
-        CA      FORWARD
-        TS      AX
-        TCF     LAWDONE
 # P63, the braking phase: to high gate, 7500 m before the site, 2300 m up, at 150 m/s forward. The time to go is that at
 # the mean of both speeds. The craft brakes evenly, and goes straight down to that altitude, never up. Two seconds before
 # high gate P64 begins.
@@ -2773,9 +2825,6 @@ SINK    DEC     128         # 2 m/s
 LESS20MS DEC    -1280       # 20 m/s
 LESS150 DEC     -150
 LESS358 DEC     -358
-CLIMB   DEC     3200        # 50 m/s
-CLIMB1  DEC     640         # 10 m/s
-FORWARD DEC     1229        # 1.2 m/s/s
 
 # ---- bank 06: fresh start, P00 and restart, and what BANKCALL calls
         BANK    06
@@ -2895,8 +2944,10 @@ VACSIZE DEC     20
 TIME3ST DEC     8384        # 80 seconds to the carry
 ALM1107 OCT     1107
 
-# LOADCHK: is the load a craft's? Its altitude is above -64 m, its mass 6500 to 9000 kg.
-LOADCHK CA      ZN
+# LOADCHK: is the load a craft's? Its altitude is above -64 m, its mass 6500 to 9000 kg. After an abort it is none.
+LOADCHK CCS     ORBNAV
+        TCF     BADLOAD
+        CA      ZN
         AD      SIXTY4
         EXTEND
         BZMF    BADLOAD
@@ -2918,6 +2969,8 @@ LESS2500 DEC    -2500
 # 3001 comes.
 JUDGE   EXTEND
         QXCH    PROGQ
+        CCS     ORBNAV
+        TCF     CRASH       # an abort is no landing
         CA      TOUCHT
         EXTEND
         MP      GPULSES
@@ -3010,6 +3063,572 @@ RANGEJOB CA     XN
         TC      SQRT
         TS      RANGE
         TC      ENDOFJOB
+
+# ---- bank 10: an abort to an orbit, by P70 with the descent engine, by P71 with the ascent engine
+        BANK    10
+# DPTIMES: MPAC becomes MPAC times A, a fraction.
+DPTIMES TS      TEMC
+        CA      MPAC +1
+        EXTEND
+        MP      TEMC
+        TS      TEMA
+        CA      MPAC
+        EXTEND
+        MP      TEMC
+        DXCH    MPAC
+        CA      TEMA
+        TS      L
+        CA      ZERO
+        DAS     MPAC
+        TC      Q
+
+# PULLS: A and NEWPULL = the gravity that is left at the state in the VAC area, GHERE = gravity. Both fall with the
+# altitude h: gravity is g (1 - 2 h/R), and the speed makes up for v v/R (1 - h/R).
+PULLS   EXTEND
+        INDEX   PUSHLOC
+        DCA     3
+        DDOUBL
+        DDOUBL              # in 1/8 m/s
+        EXTEND
+        SQUARE
+        EXTEND
+        MP      CENTRIF
+        DOUBLE
+        TS      TEMB
+        INDEX   PUSHLOC
+        CA      5
+        EXTEND
+        MP      PERMOON
+        TS      TEMA        # h/R
+        EXTEND
+        MP      TEMB
+        COM
+        ADS     TEMB
+        CA      TEMA
+        EXTEND
+        MP      GMOON
+        DOUBLE
+        COM
+        AD      GMOON
+        TS      GHERE
+        EXTEND
+        SU      TEMB
+        TS      NEWPULL
+        TC      Q
+
+# ORBGAIN: MPAC = half of what A coarse pulses bring, less what MPAC has.
+ORBGAIN EXTEND
+        QXCH    LAWQ
+        TS      TEMB
+        EXTEND
+        DCS     MPAC
+        DXCH    ORBTEM
+        CA      TEMB
+        DOUBLE
+        EXTEND
+        MP      PULSE2
+        DXCH    MPAC
+        CA      BIT12
+        TC      DPTIMES
+        EXTEND
+        DCA     ORBTEM
+        DAS     MPAC
+        TC      LAWQ
+
+# ORBSTEP: SERVICER's step in an abort. Forward the pulses count, and the turning of the vertical takes VX VZ/R; up they
+# count, less the gravity that is left in the middle of the step.
+ORBSTEP INDEX   PUSHLOC
+        CA      3
+        DOUBLE
+        DOUBLE
+        TS      TEMB
+        INDEX   PUSHLOC
+        CA      7
+        DOUBLE
+        DOUBLE
+        DOUBLE
+        EXTEND
+        MP      TEMB
+        EXTEND
+        MP      PERMOON
+        EXTEND
+        MP      STEPDT
+        DXCH    MPAC
+        CA      BIT9
+        TC      DPTIMES
+        CA      USEDX
+        TC      ORBGAIN
+        CA      PUSHLOC
+        TS      BLK
+        TC      STEP
+        TC      PULLS
+        EXTEND
+        MP      HALF
+        TS      TEMB
+        CA      PULL
+        EXTEND
+        MP      HALF
+        AD      TEMB
+        EXTEND
+        MP      STEPDT
+        DXCH    MPAC
+        CA      BIT8
+        TC      DPTIMES
+        CA      USEDZ
+        TC      ORBGAIN
+        CA      FOUR
+        AD      PUSHLOC
+        TS      BLK
+        TC      STEP
+# An engine that is on gives five pulses a second at least. If the descent engine does not, its fuel is gone: P71. If the
+# ascent engine does not for three seconds, that is an alarm. An engine without thrust burns nothing.
+        CCS     ENGCUT
+        TCF     ORBOUT
+        CA      USEDT
+        AD      LESSHALF
+        EXTEND
+        BZMF    ORBBURN     # too short to tell
+        CA      USEDX
+        TC      ABS
+        TS      TEMA
+        CA      USEDZ
+        TC      ABS
+        AD      TEMA
+        AD      LESS4
+        EXTEND
+        BZMF    NOPUSH
+        CA      ZERO
+        TS      NOTHRUST
+        TCF     ORBBURN
+NOPUSH  INCR    NOTHRUST
+        CCS     STAGED
+        TCF     +4
+        CA      PROG71
+        TS      MODREG
+        TCF     ORBOUT
+        CS      THREE
+        AD      NOTHRUST
+        EXTEND
+        BZF     +2
+        TCF     ORBBURN
+        TC      ALARM
+        OCT     3002
+ORBBURN CCS     NOTHRUST
+        TCF     ORBOUT
+        CA      FCMD
+        TC      BURN
+# The state is put back, as SERVICER does it. ALT and VEL are dark: the radar does not count.
+ORBOUT  INHINT
+        CA      BIT9        # PROG stays as it is
+        MASK    SIGNS +13
+        TS      SIGNS +13
+        CA      NINE
+ORBOUT1 TS      TEMA
+        AD      PUSHLOC
+        TS      TEMB
+        INDEX   TEMB
+        CA      1
+        INDEX   TEMA
+        TS      XN
+        CCS     TEMA
+        TCF     ORBOUT1
+        CS      USEDX
+        ADS     DELVX
+        CS      USEDZ
+        ADS     DELVZ
+        CS      USEDT
+        ADS     DELT
+        CA      NEWPULL
+        TS      PULL
+        CA      ONE
+        TS      ORBNAV
+        RELINT
+        TCF     ORBLAW
+
+# ABORTLAW: GUIDE jumps there in P70 and P71. At first the state in the VAC area comes into the units of an orbit, and the
+# crew's display, whose noun may be gone, becomes the program's. The accelerometers' pulses are coarse from now on: those that
+# have come since READACCS go into the speeds at once.
+ABORTLAW CCS    ORBNAV
+        TCF     ORBLAW
+        CA      SIX
+INTOORB TS      TEMB
+        AD      PUSHLOC
+        TS      BLK
+        EXTEND
+        INDEX   BLK
+        DCA     1
+        DXCH    MPAC
+        CA      BIT10
+        TC      DPTIMES
+        DXCH    MPAC
+        INDEX   BLK
+        DXCH    1
+        CA      TEMB
+        EXTEND
+        BZF     +3
+        AD      LESS2
+        TCF     INTOORB
+        CA      ZERO
+        TS      USEDX
+        TS      USEDZ
+        TS      USEDT
+        TS      NOTHRUST
+        TC      PULLS
+        TC      BANKCALL
+        CADR    FREEDISP
+        INHINT
+        CA      TWO
+        EXTEND
+        WOR     STAGING
+        CA      ZERO
+        XCH     DELVX
+        AD      PIPAZ
+        TC      LASTFINE
+        INDEX   PUSHLOC
+        DAS     3
+        CA      ZERO
+        TS      PIPAZ
+        XCH     DELVZ
+        AD      PIPAX
+        TC      LASTFINE
+        INDEX   PUSHLOC
+        DAS     7
+        CA      ZERO
+        TS      PIPAX
+        TCF     ORBOUT
+# LASTFINE: A and L = what A fine pulses bring.
+LASTFINE EXTEND
+        QXCH    PROGQ
+        TS      TEMC
+        CA      ZERO
+        ZL
+        DXCH    MPAC
+        CA      TEMC
+        TC      ORBGAIN
+        CA      HALF
+        TC      DPTIMES
+        DXCH    MPAC
+        INDEX   PROGQ
+        TC      0
+
+# The law. The stages first: P71 drops the descent stage, once, and with it that stage's mass.
+ORBLAW  CCS     ENGCUT
+        TCF     ORBEND
+        CS      PROG71
+        AD      MODREG
+        EXTEND
+        BZF     ASCENT
+        CA      DESCMOST
+        TCF     ORBENG
+ASCENT  CCS     STAGED
+        TCF     ASCENT1
+        INHINT
+        CA      ONE
+        TS      STAGED
+        EXTEND
+        WOR     STAGING
+        CA      ASCMASS
+        TS      MASS
+        CA      ZERO
+        TS      MASS +1
+        TS      NOTHRUST
+        RELINT
+ASCENT1 CA      ASCMOST
+ORBENG  TS      FCMD
+        EXTEND
+        MP      BIT13
+        DXCH    MPAC
+        CA      MASS
+        TS      DIVISOR
+        TC      DIVS
+        TS      ATOT
+# The time to go is that in which the engine brings the speed that is lacking. Two seconds before, the engine's end goes into
+# the Waitlist: 0.2 s early, for what the engine brings after that.
+        EXTEND
+        DCS     VX
+        DXCH    MPAC
+        CA      VORBIT
+        ADS     MPAC
+        EXTEND
+        MP      HALF
+        TS      VGODISP
+        CA      HALF
+        TC      DPTIMES
+        CA      ATOT
+        TS      DIVISOR
+        TC      DIVS
+        TS      ORBTGO
+        EXTEND
+        DCA     VZ
+        DDOUBL
+        DDOUBL
+        DDOUBL
+        EXTEND
+        MP      FIVE8THS
+        TS      ALTRATE
+        CA      ZN
+        EXTEND
+        MP      FOUR5THS
+        DDOUBL
+        DDOUBL
+        TS      ALTKM
+        CA      ORBTGO
+        AD      LESSCUT
+        EXTEND
+        BZMF    +2
+        TCF     ORBUP
+        CA      CUTBIT
+        MASK    FLAGWRD1
+        EXTEND
+        BZF     +2
+        TCF     ORBUP
+        TC      UPFLAG
+        ADRES   CUTBIT
+        CA      ORBTGO
+        TC      ATLEAST
+        DEC     0
+        EXTEND
+        MP      HUNDRED
+        CA      L
+        EXTEND
+        MP      BIT11
+        AD      TAILOFF
+        TS      TEMA
+        CS      PIPTIME     # the state is that of PIPTIME
+        AD      TIME1
+        EXTEND
+        BZMF    +2
+        TCF     +3
+        AD      POSMAX      # TIME1 began anew
+        AD      ONE
+        COM
+        AD      TEMA
+        TC      ATLEAST
+        DEC     2
+        INHINT
+        TC      WAITLIST
+        2CADR   CUTTASK
+        RELINT
+# Up: upright, until the craft climbs by 15 m/s. Then by 6/T (way/T) - 4 VZ/T to the altitude of the orbit, at rest there;
+# in the last ten seconds without a change of the rate.
+ORBUP   CS      VZ
+        AD      RISERATE
+        EXTEND
+        BZMF    ORBTURN
+        CA      ZN
+        AD      LESSRISE
+        EXTEND
+        BZMF    +2
+        TCF     ORBTURN
+        CA      ZERO
+        TCF     ORBTILT
+ORBTURN CA      ORBTGO
+        AD      LESSHOLD
+        EXTEND
+        BZMF    ORBHOLD
+        EXTEND
+        DCS     ZN
+        DXCH    MPAC
+        EXTEND
+        DCA     HORBIT
+        DAS     MPAC
+        CA      SIXBY16
+        TC      DPTIMES
+        CA      ORBTGO
+        TS      DIVISOR
+        TC      DIVS
+        TS      TEMB
+        EXTEND
+        DCS     VZ
+        DDOUBL
+        DDOUBL
+        AD      TEMB
+        EXTEND
+        MP      HALF
+        DXCH    MPAC
+        TC      DIVS
+        TC      LIMIT
+        DEC     2560        # 2.5 m/s/s
+        TCF     +2
+ORBHOLD CA      ZERO
+        TS      AZ
+        CA      PULL        # and the gravity that is left
+        EXTEND
+        MP      BIT12
+        AD      AZ
+        TS      GZ
+        CA      ATOT        # 19/20 of the engine's at most
+        EXTEND
+        MP      MOSTUP
+        TS      TEMA
+        EXTEND
+        SU      GZ
+        EXTEND
+        BZMF    +2
+        TCF     +3
+        CA      TEMA
+        TS      GZ
+# Forward is what the engine has left; the tilt is from that, by the tangent that is not above one.
+        CA      GZ
+        EXTEND
+        SQUARE
+        EXTEND
+        DCOM
+        DXCH    MPAC
+        CA      ATOT
+        EXTEND
+        SQUARE
+        DAS     MPAC
+        TC      SQRT
+        TS      AX
+        EXTEND
+        SU      GZ
+        EXTEND
+        BZMF    ORBSTEEP
+        CA      GZ
+        ZL
+        DXCH    MPAC
+        CA      AX
+        TS      DIVISOR
+        TC      DIVS
+        TC      ARCTAN
+        COM
+        AD      LEVEL
+        TCF     ORBTILT
+ORBSTEEP CA     AX
+        ZL
+        DXCH    MPAC
+        CA      GZ
+        TS      DIVISOR
+        TC      DIVS
+        TC      ARCTAN
+ORBTILT TS      THETAD
+        INHINT
+        CCS     AVEGFLG     # the ground may have come meanwhile
+        TCF     +2
+        TC      ENDOFJOB
+        CA      FCMD
+        EXTEND
+        WRITE   THROTTLE
+        TC      ENDOFJOB
+
+# CUTTASK: the engine goes off in orbit.
+CUTTASK CCS     AVEGFLG
+        TCF     +2
+        TC      TASKOVER
+        CS      BIT13
+        EXTEND
+        WAND    LAMPS
+        CA      ZERO
+        TS      FCMD
+        EXTEND
+        WRITE   THROTTLE
+        CA      ONE
+        TS      ENGCUT
+        TC      TASKOVER
+# ORBEND: three seconds later the orbit is computed from the state, and guidance ends. Upward from the perilune the
+# eccentricity is what the speed has over that of a circle, and across it VZ/VX.
+ORBEND  CS      FOUR
+        AD      ENGCUT
+        EXTEND
+        BZF     +3
+        INCR    ENGCUT
+        TC      ENDOFJOB
+        CS      PULL
+        ZL
+        DXCH    MPAC
+        CA      GHERE
+        TS      DIVISOR
+        TC      DIVS
+        TS      ECCX
+        EXTEND
+        DCA     VZ
+        DXCH    MPAC
+        CA      VX
+        TS      DIVISOR
+        TC      DIVS
+        EXTEND
+        SQUARE
+        DXCH    MPAC
+        CA      ECCX
+        EXTEND
+        SQUARE
+        DAS     MPAC
+        TC      SQRT
+        TS      ECC
+        CA      ZN
+        EXTEND
+        MP      PER200M
+        AD      MOON200M
+        TS      RHERE
+        CA      ECC
+        AD      ECCX
+        ZL
+        DXCH    MPAC
+        CS      ECC
+        AD      POSMAX
+        TS      DIVISOR
+        TC      DIVS        # (x + e)/(1 - e)
+        TC      FROMHERE
+        TS      APOLUNE
+        CS      ECC
+        AD      ECCX
+        EXTEND
+        MP      HALF
+        DXCH    MPAC
+        CA      ECC
+        EXTEND
+        MP      HALF
+        AD      HALF
+        TS      DIVISOR
+        TC      DIVS        # (x - e)/(1 + e)
+        TC      FROMHERE
+        TS      PERILUNE
+        CA      VX
+        EXTEND
+        MP      HALF
+        TS      SPEEDMS
+        INHINT
+        TC      ENGOFF
+        CA      ORBNOUN
+        TS      PDNOUN
+        TC      ENDOFJOB
+# FROMHERE: A = the altitude in 0.1 km that is higher than this one by A times the way to the Moon's middle.
+FROMHERE EXTEND
+        MP      RHERE
+        DDOUBL
+        TS      TEMA
+        CA      ZN
+        EXTEND
+        MP      PER100M
+        AD      TEMA
+        TC      Q
+CENTRIF DEC     .603532     # 256/R in 2 to the -13, by 2
+PERMOON DEC     .301766     # 32/R in 2 to the -14
+GMOON   DEC     13271       # 1.62 m/s/s
+PULSE2  DEC     .936
+LESSHALF DEC    -50         # half a second
+PROG71  DEC     71
+ORBNOUN DEC     44
+DESCMOST DEC    10572       # 42.3 kN
+ASCMOST DEC     3900        # 15.6 kN
+ASCMASS DEC     4700
+VORBIT  DEC     3368        # 1684 m/s
+HORBIT  DEC     562         # 18 km
+        DEC     8192
+FIVE8THS DEC    .625
+FOUR5THS DEC    .8
+LESSCUT DEC     -32         # 2 s
+HUNDRED DEC     100
+TAILOFF DEC     -20
+RISERATE DEC    30          # 15 m/s
+LESSRISE DEC    -150        # 4.8 km
+LESSHOLD DEC    -160        # 10 s
+MOSTUP  DEC     .95
+LEVEL   DEC     8192        # 90 degrees
+PER200M DEC     .16
+PER100M DEC     .32
+MOON200M DEC    8687
 
 # ---- bank 40, behind the superbank: the way ahead
         BANK    40

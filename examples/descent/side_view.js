@@ -1,6 +1,7 @@
 // The side view of a flight: side_view.py once more, for agc.html.
 
 const SIZES = [500, 1000, 2000, 5000, 10000, 20000]; // m from edge to edge
+const HIGHEST = 50000; // the same of a craft that is too high for these
 const CLOSE_SIZES = [[100, 250], [45, 100], [18, 50]]; // a height in m, and the size below it
 const SHAPE = 0.55; // of a frame: its height by its width
 const AHEAD = 10; // seconds that the path is predicted, a piece each
@@ -34,7 +35,8 @@ function away(x) {
 
 // The frame, left, bottom, right, top, and how many times too large the craft is drawn in it.
 function frameOf({ x, height }) {
-  let size = SIZES.find((each) => Math.abs(x) <= 0.6 * each && height <= 0.45 * each) ?? SIZES.at(-1);
+  const largest = height <= 0.45 * SIZES.at(-1) ? SIZES.at(-1) : HIGHEST;
+  let size = SIZES.find((each) => Math.abs(x) <= 0.6 * each && height <= 0.45 * each) ?? largest;
   for (const [below, close] of CLOSE_SIZES) if (height < below) size = close;
   const middle = x + Math.max(-0.3 * size, Math.min(0.3 * size, -x));
   const frame = [rounded(middle - size / 2, 1), -0.06 * size, rounded(middle + size / 2, 1), (SHAPE - 0.06) * size];

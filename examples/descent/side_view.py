@@ -8,6 +8,7 @@ import math
 from typing import NamedTuple
 
 SIZES = (20000, 10000, 5000, 2000, 1000, 500)  # m from edge to edge, above CLOSE
+HIGHEST = 50000  # the same of a craft that is too high for these
 CLOSE_SIZES = ((100, 250), (45, 100), (18, 50))  # a height in m, and the size below it
 SHAPE = 0.55  # of a frame: its height by its width
 AHEAD, PIECES = 10.0, 10  # seconds that the path is predicted, and its pieces
@@ -55,7 +56,8 @@ def away(x):
 
 def frame_of(flight):
     """Returns the frame, left, bottom, right, top, and how many times too large the craft is drawn in it."""
-    size = next((size for size in reversed(SIZES) if abs(flight.x) <= 0.6 * size and flight.height <= 0.45 * size), SIZES[0])
+    largest = SIZES[0] if flight.height <= 0.45 * SIZES[0] else HIGHEST
+    size = next((size for size in reversed(SIZES) if abs(flight.x) <= 0.6 * size and flight.height <= 0.45 * size), largest)
     for below, close in CLOSE_SIZES:
         if flight.height < below:
             size = close

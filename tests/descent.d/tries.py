@@ -120,38 +120,66 @@ def start_of(seed):
             return start
 
 
+class Engines:
+    """What the computer's channel writes make of jets, engine and stages, for the second integration."""
+
+    def __init__(self, mass, thrust):
+        self.mass, self.thrust, self.aim = mass, thrust, thrust
+        self.jets, self.is_on, self.is_flying, self.is_staged, self.is_dry = 0, False, False, False, False
+
+    def look(self):
+        """There is no thrust from the hundredth of a second on in which the fuel ends."""
+        self.is_dry = self.is_dry or self.mass - self.thrust / 3050 * 0.01 <= (2350 if self.is_staged else 6500)
+        self.thrust = 0.0 if self.is_dry else self.thrust
+
+    def take(self, write):
+        if write.channel == 0o5:
+            self.jets = (write.value & 1) - (write.value >> 1 & 1)
+        elif write.channel == 0o42:
+            self.aim = 4.0 * write.value
+        elif write.channel == 0o43 and write.value & 1 and not self.is_staged:
+            self.is_staged, self.is_dry, self.mass, self.thrust = True, False, 4700.0, 0.0
+        elif write.channel == 0o11:
+            self.is_on = write.value & 0o10000 != 0
+            self.is_flying = self.is_flying or self.is_on
+
+    def push(self, dt):
+        """The mean acceleration of a step; it burns the fuel. The ascent engine has 15,600 N and no throttle."""
+        aim = (15600.0 if self.is_staged else self.aim) if self.is_on and not self.is_dry else 0.0
+        after = aim + (self.thrust - aim) * math.exp(-dt / 0.2)
+        push, self.thrust = (self.thrust + after) / 2 / self.mass, after
+        self.mass -= push * self.mass / 3050 * dt
+        return push
+
+
 def integrated(start, seed, written, seconds):
-    """Integrates the craft's equations by itself, from the channel writes and their cycles alone: midpoint steps of five
-    milliseconds, Python's sine and cosine, angles in degrees. What is written acts from the next hundredth of a second on.
-    Returns the speeds up and forward, and the tilt, after some seconds."""
+    """Integrates the craft's flight by itself, from the channel writes and their cycles alone: around the middle of the Moon, in
+    coordinates that do not turn, by steps of five milliseconds with Python's sine and cosine, angles in degrees. What is written
+    acts from the next hundredth of a second on. Returns the speeds up and forward, the tilt, and the height in the end."""
     born = example.Craft(*start, seed)
-    up, forward, mass = born.up, born.forward, born.mass
-    tilt, rate, thrust = math.degrees(born.tilt), math.degrees(born.turning), 25500.0
-    jets, wanted, engine, flying, dt = 0, 25500.0, False, False, 0.005
+    engines = Engines(born.mass, 25500.0)
+    moon, radius, dt = 1.62 * 1737400.0**2, 1737400.0 + born.height, 0.005
+    x, y, vx, vy = 0.0, radius, born.forward, born.up
+    tilt, rate = math.degrees(born.tilt), math.degrees(born.turning)
     coming = iter(written)
     write = next(coming, None)
     for half in range(round(seconds / dt)):
         while half % 2 == 0 and write is not None and write.cycle < (half // 2 + 1) * 2560 // 3:
-            if write.channel == 0o5:
-                jets = (write.value & 1) - (write.value >> 1 & 1)
-            elif write.channel == 0o42:
-                wanted = 4.0 * write.value
-            elif write.channel == 0o11:
-                engine = write.value & 0o10000 != 0
-                flying = flying or engine
+            engines.take(write)
             write = next(coming, None)
-        if not flying:
+        if not engines.is_flying:
             continue
-        aim = wanted if engine and mass > 6500 else 0.0
-        after = aim + (thrust - aim) * math.exp(-dt / 0.2)
-        push, thrust = (thrust + after) / 2 / mass, after
-        mass -= push * mass / 3050 * dt
-        angle = math.radians(tilt + rate * dt / 2)
-        tilt += (rate + 4.0 * jets * dt / 2) * dt
-        rate += 4.0 * jets * dt
-        forward += push * math.sin(angle) * dt
-        up += (push * math.cos(angle) - 1.62) * dt
-    return up, forward, tilt
+        if half % 2 == 0:
+            engines.look()
+        push = engines.push(dt)
+        angle = math.radians(tilt + rate * dt / 2) + math.atan2(x + vx * dt / 2, y + vy * dt / 2)
+        tilt += (rate + 4.0 * engines.jets * dt / 2) * dt
+        rate += 4.0 * engines.jets * dt
+        ax, ay = push * math.sin(angle) - moon * x / radius**3, push * math.cos(angle) - moon * y / radius**3
+        x, y = x + (vx + ax * dt / 2) * dt, y + (vy + ay * dt / 2) * dt
+        vx, vy = vx + ax * dt, vy + ay * dt
+        radius = math.hypot(x, y)
+    return (vx * x + vy * y) / radius, (vx * y - vy * x) / radius, tilt, radius - 1737400.0
 
 
 def flight(seed):
@@ -176,9 +204,10 @@ def flight(seed):
     wanted = [" ".join(pair) for pair in panel.items()]
     wrong = []
     up, forward_then, tilt, miss = craft.touched or (-99, 99, 99, 99)
-    aborted = not craft.touched and panel["PROG"] == "70" and alarm == 0o3004 and craft.up >= 30 and not near_gate
-    late = craft.mass - example.DRY < 400 + 0.015 * example.LOADED  # of fuel: the alarm of low fuel may have come
-    other = integrated((height, way, forward, down), seed, writes, now - 3)
+    aborted = craft.in_orbit() and panel["PROG"] in ("70", "71") and alarm == 0o3004 and not near_gate
+    late = craft.fuel() < 400 + 0.015 * example.LOADED  # of fuel: the alarm of low fuel may have come
+    other = integrated((height, way, forward, down), seed, writes, now if aborted else now - 3)
+    up, forward_then, tilt = (craft.up, craft.forward, math.degrees(craft.tilt)) if aborted else (up, forward_then, tilt)
     for what, right in (
         ("on the ground, or aborted by name", craft.touched is not None or aborted),
         ("down below 1.5 m/s", aborted or -1.5 < up <= 0),
@@ -187,15 +216,15 @@ def flight(seed):
         ("in P68", aborted or panel["PROG"] == "68"),
         ("at the site from high gate", not near_gate or abs(miss) < 40),
         ("engine off", aborted or not craft.engine),
-        ("fuel left", craft.mass > example.DRY),
+        ("fuel left", craft.fuel() > 0),
         ("no alarm from high gate", alarm == 0 or not near_gate),
         (
             "a reason for an alarm",
             aborted or alarm == 0 or alarm == 0o3003 and (height > 110 or forward > 20) or alarm == 0o3004 and late,
         ),
-        ("the other integration, up", aborted or abs(other[0] - up) < 0.08),
-        ("the other integration, forward", aborted or abs(other[1] - forward_then) < 0.08),
-        ("the other integration, tilt", aborted or abs(other[2] - tilt) < 0.15),
+        ("the other integration, up", abs(other[0] - up) < 0.08),
+        ("the other integration, forward", abs(other[1] - forward_then) < 0.08),
+        ("the other integration, tilt", abs(other[2] - tilt) < 0.15),
         ("fewer than 20,000 events from high gate", not near_gate or events < 20000),
         ("fewer than 60,000 events", events < 60000),
         ("the panel of agc", log[:8] == wanted),
@@ -206,7 +235,7 @@ def flight(seed):
         wrong.append((f"flight {seed} from {height:.0f} {way:.0f} {forward:.1f} {down:.1f}: {what}", right))
     line = (
         f"{seed:4d} {height:7.0f} {way:6.0f} {forward:8.1f} {down:5.1f} {now:8.1f} {up:7.2f} {forward_then:8.2f}"
-        f" {tilt:6.2f} {miss:6.1f} {craft.mass - example.DRY:6.0f} {events:7d}  {panel['PROG']}"
+        f" {tilt:6.2f} {miss:6.1f} {craft.fuel():6.0f} {events:7d}  {panel['PROG']}"
     )
     return line, wrong
 
@@ -328,7 +357,7 @@ def try_mistakes():
             2,
             ["--fault", "wing:3"],
             "craft.py: error: argument --fault: wing:3 names no fault: PART:SECOND[:SECONDS], as radar:60; "
-            "parts are radar, forward-jet, back-jet, engine",
+            "parts are radar, forward-jet, back-jet, engine, ascent-engine",
         ),
         (2, ["--every", "inf"], "craft.py: error: argument --every: inf is not finite"),
         (2, ["--key", "60:PROG"], "craft.py: error: argument --key: 60:PROG names no key: SECOND:KEY, as 60:VERB"),
@@ -662,17 +691,182 @@ def try_braking(flights):
             near("at the site", 0, miss, 40)
 
 
-def try_abort_key():
-    """V37E70E: the craft climbs, and the flight ends."""
-    craft = example.Craft()
-    keys = dict(example.APPROACH)
-    for place, key in enumerate("VERB 3 7 ENTR 7 0 ENTR".split()):
-        keys[100 + 0.1 * place] = key
+ABORTS = [
+    # what it is, the start, the program of the flight and of the abort, the second of its key, and a height in m below which it
+    # comes instead
+    ("at high gate", (2300.0, 7500.0, 150.0, 45.0), 64, 70, 5.0, 0),
+    ("in the approach", (2300.0, 7500.0, 150.0, 45.0), 64, 70, 80.0, 0),
+    ("in the approach, ascent stage", (2300.0, 7500.0, 150.0, 45.0), 64, 71, 80.0, 0),
+    ("below low gate", (2300.0, 7500.0, 150.0, 45.0), 64, 70, 145.0, 0),
+    ("at 20 m", (2300.0, 7500.0, 150.0, 45.0), 64, 70, 999.0, 20),
+    ("at 20 m, ascent stage", (2300.0, 7500.0, 150.0, 45.0), 64, 71, 999.0, 20),
+    ("at 2 m", (60.0, 0.0, 0.0, 0.0), 64, 70, 999.0, 2),
+    ("before high gate", (3900.0, 15000.0, 200.0, 50.0), 63, 70, 12.0, 0),
+    ("before high gate, ascent stage", (3900.0, 15000.0, 200.0, 50.0), 63, 71, 12.0, 0),
+    ("as fast down as the range allows", (2000.0, 4000.0, 180.0, 70.0), 64, 70, 3.5, 0),
+    ("backward", (30.0, 0.0, -15.0, 0.0), 64, 70, 3.5, 0),
+]
+
+
+def typed_at(second, program, gap=0.1):
+    """The keys of V37E and a program, from a second on."""
+    return {second + gap * n: key for n, key in enumerate(("VERB", "3", "7", "ENTR", *str(program), "ENTR"))}
+
+
+def kepler(height, forward, up):
+    """Apolune and perilune in km, from the eccentricity's two parts: up from the perilune, and across."""
+    radius, moon = 1737.4 + height / 1000, 1.62e-3 * 1737.4**2
+    along = radius * (forward / 1000) ** 2 / moon - 1
+    eccentricity = math.hypot(along, radius * forward * up / 1e6 / moon)
+    latus = radius * (1 + along)
+    return latus / (1 - eccentricity) - 1737.4, latus / (1 + eccentricity) - 1737.4
+
+
+def aborted(number, disturb=None, ascent_fuel=example.ASCENT_FUEL):
+    """Flies an abort. Returns the craft, what is shown in the end, alarms, the writes, the script, the last cycle and second."""
+    _, start, program, by, second, low = ABORTS[number]
+    craft = example.Craft(*start, seed=number + 1)
+    craft.ascent_fuel = ascent_fuel
+    keys = dict(example.BRAKING if program == 63 else example.APPROACH)
+    keys.update({} if low else typed_at(second, by))
+    presses = []
+
+    def press(machine, now):
+        if low and not presses and craft.height < low:
+            presses.extend(sorted(typed_at(now + 0.01, by).items()))
+            presses.append((1e9, ""))
+        while presses and presses[0][0] <= now:
+            machine.key(presses.pop(0)[1])
+        if disturb and craft.flying:
+            disturb(machine, now)
+
+    writes = []
     with Machine() as machine:
-        for _ in example.fly(machine, craft, keys):
-            pass
-        judge("P70 without an alarm", ("70", 0), (machine.panel()["PROG"], machine.word("FAILREG")))
-    judge("it climbs", True, craft.touched is None and craft.up >= 30)
+        for now, written in example.fly(machine, craft, keys, disturb=press):
+            writes += written
+        alarms = [machine.word("FAILREG", n) for n in range(3)]
+        return craft, machine.shown().split(), alarms, writes, machine.script(), machine.cycle, now
+
+
+def abort_flight(number):
+    """An abort, its replay and its second integration: what was not as it should be."""
+    name, start = ABORTS[number][:2]
+    craft, shown, alarms, writes, text, cycle, now = aborted(number)
+    script = os.path.join(scratch, f"abort-{number}")
+    with open(script, "w") as file:
+        file.write(text)
+    log = ran(agc, example.ROPE, script, "--limit", str(cycle), "--log").stdout.splitlines()
+    other = integrated(start, number + 1, writes, now)
+    high, low = kepler(craft.height, craft.forward, craft.up)
+    registers = [int(each) / unit for each, unit in zip(shown[3:6], (10, 10, 1))] if shown[2] == "44" else [0.0, 0.0, 0.0]
+    checks = [
+        ("it is in orbit", craft.in_orbit() and not craft.touched),
+        ("the perilune is above 10 km", low > 10),
+        ("the apolune is below 110 km", low < high < 110),
+        ("program and noun", shown[0] in ("70", "71") and shown[1:3] == ["06", "44"]),
+        ("no alarm", alarms == [0, 0, 0]),
+        ("the DSKY's apolune", abs(registers[0] - high) < 8),
+        ("the DSKY's perilune", abs(registers[1] - low) < 1.5),
+        ("the DSKY's speed", abs(registers[2] - craft.forward) < 2.5),
+        ("the words", example.orbit_in_words(craft) == f"Aborted: orbit of {high:.0f} by {low:.0f} km"),
+        ("the other integration, up", abs(other[0] - craft.up) < 0.12),
+        ("the other integration, forward", abs(other[1] - craft.forward) < 0.12),
+        ("the other integration, tilt", abs(other[2] - math.degrees(craft.tilt)) < 0.15),
+        ("the other integration, height", abs(other[3] - craft.height) < 30),
+        ("events", len(text.splitlines()) < 50000),
+        ("agc repeats it", log[9:] == [f"{w.cycle} {w.channel:03o} {w.value:05o}" for w in writes] and log[0] == f"PROG {shown[0]}"),
+    ]
+    line = (
+        f"{name:34s} {high:6.1f} {low:5.1f} km, shown {shown[3]} {shown[4]} {shown[5]}, fuel {craft.fuel():5.0f}, {now:5.0f} s,"
+        f" {len(text.splitlines())} events; other {other[0] - craft.up:+.3f} {other[1] - craft.forward:+.3f}"
+        f" {other[2] - math.degrees(craft.tilt):+.3f} {other[3] - craft.height:+.2f}"
+    )
+    return line, [(f"abort {name}: {what}", right) for what, right in checks]
+
+
+def try_aborts(flights):
+    """Aborts from anywhere end in orbit, and the DSKY shows it."""
+    for line, checks in flights.get():
+        print(line)
+        for what, right in checks:
+            judge(what, True, right)
+
+
+def stormy(number):
+    """An abort with an alarm 1202 or 1201 every 0.7 seconds or so from its last key on; how it ends."""
+    chance = random.Random(5000 + number)
+    due = [ABORTS[number][4] + 0.65]
+
+    def disturb(machine, now):
+        if now >= due[0]:
+            due[0] = now + chance.uniform(0.4, 1.0)
+            if chance.random() < 0.5:
+                for core in range(1, 8):
+                    machine.put("PRIORITY", -0o1000, 12 * core)
+            else:
+                for area in range(1, 6):
+                    machine.put(f"VAC{area}USE", 0)
+
+    craft, shown, alarms, *_ = aborted(number, disturb)
+    _, low = kepler(craft.height, craft.forward, craft.up)
+    return number, (shown[:3], craft.in_orbit() and low > 10, set(alarms) <= {0o1201, 0o1202} and 0 not in alarms)
+
+
+def try_stormy_aborts(flights):
+    for number, came in flights.get():
+        judge(f"abort {ABORTS[number][0]}, 1201 and 1202: program and noun", ["06", "44"], came[0][1:])
+        judge(f"abort {ABORTS[number][0]}, 1201 and 1202: orbit, alarms", (True, True), came[1:])
+
+
+def try_abort_keys():
+    """In an abort nouns of the landing, its programs and P70 after P71 are wrong keys; P71 may follow P70. The crew's monitor
+    of such a noun ends, and P00 puts the engine off. No other flight begins then."""
+    craft = example.Craft()
+    keys = {**example.APPROACH, **typed_at(30.0, 70), **typed_at(45.0, 66), **typed_at(60.0, 71), **typed_at(70.0, 70), **typed_at(80.0, 0)}
+    for begun, text in ((20.0, "VERB 1 6 NOUN 6 8 ENTR"), (40.0, "VERB 0 6 NOUN 6 0 ENTR"), (43.0, "RSET KEYREL"), (50.0, "RSET KEYREL")):
+        keys.update({begun + 0.1 * n: key for n, key in enumerate(text.split())})
+    for begun, text in ((55.0, "VERB 1 6 NOUN 4 7 ENTR"), (75.0, "RSET KEYREL"), (79.0, "RSET"), (81.5, "VERB 3 7 ENTR 6 4 ENTR")):
+        keys.update({begun + 0.1 * n: key for n, key in enumerate(text.split())})
+    keys[80.4], keys[80.5] = "0", "0"
+    keys[80.6] = "ENTR"
+    seen, staged, mass = {}, {}, {}
+    with Machine() as machine:
+        for now, _ in example.fly(machine, craft, keys, seconds=85):
+            for when in (25.0, 39.0, 42.0, 44.5, 48.0, 52.0, 58.0, 65.0, 73.0, 81.4, 84.5):
+                if abs(now - when) < 0.001:
+                    seen[when], staged[when], mass[when] = machine.shown().split(), craft.staged, machine.word("MASS")
+        alarm = machine.word("FAILREG", 2)
+    judge("before: the crew's monitor", ["64", "16", "68"], seen[25.0][:3])
+    judge("P70 has the display", ["70", "06", "94"], seen[39.0][:3])
+    judge("noun 60 is a wrong key", True, "OPR" in seen[42.0])
+    judge("KEY REL: noun 94", ["70", "06", "94", "off"], seen[44.5][:3] + seen[44.5][6:7])
+    judge("P66 is a wrong key", ("70", True), (seen[48.0][0], "OPR" in seen[48.0]))
+    judge("noun 47 is none", ["70", "16", "47"], seen[58.0][:3])
+    judge("P71 drops the stage", ("71", True, False), (seen[65.0][0], staged[65.0], staged[58.0]))
+    near("the mass that is left, after four seconds", 4700 - 4 * 15600 / 3050, mass[65.0], 10)
+    judge("P70 is a wrong key then", ("71", True), (seen[73.0][0], "OPR" in seen[73.0]))
+    judge("P00: the engine is off", ("00", False), (seen[81.4][0], craft.engine))
+    judge("P64 does not begin", ("00", 0o3005), (seen[84.5][0], alarm))
+
+
+def try_abort_without_fuel():
+    """The ascent stage runs dry: alarm 3002, and the flight ends by name."""
+    craft, shown, alarms, *_ = aborted(2, ascent_fuel=500)
+    judge("alarm 3002 in P71", ("71", 0o3002), (shown[0], alarms[2]))
+    judge("no orbit", (False, True), (craft.in_orbit(), craft.mass == example.ASCENT_DRY))
+    judge("the page's words", "Out of fuel", example.outcome(craft)["text"])
+    verdict, last, status = flown_by("--ascent-fuel", "500", *(f"--key={when}:{key}" for when, key in typed_at(20.0, 71).items()))
+    judge("craft.py's words", True, re.match(r"Aborted: out of fuel, \d+\.\d km high, [+-]\d+\.\d\d m/s up, \+\d+\.\d\d m/s forward$", verdict) is not None)
+    judge("craft.py's end", ("program 71, alarm 03002", 0), (last, status))
+    # without a descent engine P71 comes by itself, without either one the ground does
+    keys = [f"--key={when}:{key}" for when, key in typed_at(20.0, 70).items()]
+    verdict, last, _ = flown_by("--fault", "engine:15", *keys)
+    judge("no descent engine", ("Aborted: orbit of", "program 71, alarm 03002"), (verdict[:17], last))
+    verdict, last, _ = flown_by("--fault", "engine:15", "--fault", "ascent-engine:15", *keys)
+    judge("no engine", ("on the ground: -", "OUTSIDE THE LIMITS", "program 69, alarm 03001"), (verdict[:16], verdict[-18:], last))
+    # the descent stage runs dry: P71 by itself
+    craft, shown, alarms, *_ = aborted(1)
+    judge("P71 after P70, without an alarm", ("71", True, [0, 0, 0]), (shown[0], craft.staged, alarms))
 
 
 # the keyboard
@@ -1008,7 +1202,7 @@ WRONG = [
     (["--script", f"{folder}/alarm/vac"], "on the ground: -", ": within the limits", "program 68, alarm 01201"),
     (["--script", f"{folder}/alarm/waitlist"], "on the ground: -", ": within the limits", "program 68, alarm 01203"),
     (["--loaded-mass", "0"], "not on the ground", "", "program 00, alarm 03005"),
-    (["--loaded-mass", "6890"], "aborted: +", " m", "program 70, alarm 03004"),
+    (["--loaded-mass", "6890"], "Aborted: orbit of ", " km", "program 71, alarm 03004"),
 ]
 
 
@@ -1101,7 +1295,8 @@ def try_forced(flights):
 
 
 def try_exact():
-    """The craft's arithmetic: the published 10,000th state of the generator that begins with 1, and Python's own sine."""
+    """The craft's arithmetic: the published 10,000th state of the generator that begins with 1, and Python's own sine. A square
+    root is rounded in one way, too."""
     noise = exact.Noise(0)
     noise.state = 1
     for _ in range(10000):
@@ -1114,7 +1309,7 @@ def try_exact():
     )
     judge("sine and cosine", True, worst < 4e-15)
     calls = set(re.findall(r"\b(?:math|random)\.\w+", read(example.__file__) + read(exact.__file__)))
-    judge("nothing else is taken from math", {"math.floor", "math.isfinite"}, calls)
+    judge("nothing else is taken from math", {"math.floor", "math.isfinite", "math.sqrt"}, calls)
     draws = [exact.Noise(5).normal(1.0) for _ in range(2)]
     judge("the same seed gives the same noise", draws[0], draws[1])
 
@@ -1259,6 +1454,8 @@ def main():
         flights = wanted("try_flights") and pool.map_async(flight, range(FLIGHTS), 1)
         wrong = wanted("try_wrong_flights") and pool.map_async(wrong_flight, [words for words, *_ in WRONG], 1)
         braking = wanted("try_braking") and pool.map_async(braked, range(5), 1)
+        aborts = wanted("try_aborts") and pool.map_async(abort_flight, range(len(ABORTS)), 1)
+        storms = wanted("try_stormy_aborts") and pool.map_async(stormy, (0, 2, 7), 1)
         forcing = wanted("try_forced") and pool.map_async(forced, [6 * (n // 2) + n % 2 for n in range(FORCED)], 1)
         others = wanted("try_alarms") and pool.map_async(alarmed, range(6), 1)
         typing = wanted("try_wrong_keys") and pool.map_async(typed, range(8), 1)
@@ -1275,7 +1472,10 @@ def main():
             (try_hand_controller,),
             (try_rate_switch,),
             (try_braking, braking),
-            (try_abort_key,),
+            (try_aborts, aborts),
+            (try_stormy_aborts, storms),
+            (try_abort_keys,),
+            (try_abort_without_fuel,),
             (try_names,),
             (try_keys,),
             (try_flight_keys,),

@@ -163,15 +163,17 @@ def begin_again(flight):
 
 
 def abort(flight):
-    """The button types V37E70E, and the craft climbs."""
+    """The button types V37E70E, and the craft goes to an orbit."""
     flight.site.do('speed', times=1)  # so that a click that comes late comes in flight
     before = flight.click('Abort')
     judge('the first key', True, wait(lambda: any(each.startswith('key ') for each in flight.since(before)), 600))
     flight.site.do('speed', times=10)
     judge('program 70', True, wait(lambda: flight.program() == '70', 600))
     judge('what was typed', [f'key {key}' for key in 'VERB 3 7 ENTR 7 0 ENTR'.split()], [each for each in flight.since(before) if each.startswith('key ')])
-    flight.site.do('speed', times=100)
-    judge('it climbs', True, wait(lambda: flight.outcome().startswith('Aborted: '), 600))
+    flight.site.do('speed', times=1000)
+    judge('it comes to an orbit', True, wait(lambda: flight.outcome(), 600))
+    judge(f'the orbit: {flight.outcome()}', True, re.fullmatch(r'Aborted: orbit of [78]\d by 1[678] km', flight.outcome()) is not None)
+    judge('noun 44', True, wait(lambda: flight.site.state()['panel']['NOUN'] == '44', 600))
 
 
 TRIES = (try_buttons,)

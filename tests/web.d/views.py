@@ -218,15 +218,23 @@ def try_outcomes():
         ((-1.0, -0.75, -4.5, 120), wet, ('Crashed: 0.75 m/s sideways, at most 0.6; 4.50 degrees of tilt, at most 3; 120 m from the site', False)),
         ((-20.5, 0.0, 0.0, 0.2), dry, ('Out of fuel: 20.50 m/s down, at most 1.5; 0 m from the site', False)),
         (None, wet, ('', False)),
-        (None, dry, ('Out of fuel', False)),
+        (None, dry, ('', False)),
     ):
         flown = craft.Craft()
         flown.touched, flown.mass = touched, mass
         found = craft.outcome(flown)
         judge(f'{touched}: the outcome', wanted, (found['text'], found['good']))
-    flown = craft.Craft(height=612.4)
-    flown.up = 31.6
-    judge('an abort', {'text': 'Aborted: 32 m/s up, 612 m high', 'good': False}, craft.outcome(flown))
+    flown = craft.Craft(height=18000.0, forward=1684.6, down=0.0)
+    judge('before it flies', {'text': '', 'good': False}, craft.outcome(flown))
+    # 1737.4 km and 18 are 1755.4; 1.62e-3 * 1737.4 squared is 4890.065; twice that by 1755.4 is 5.57145, less 1.6846 squared
+    # 2.73358; 4890.065 by that is 1788.89 km, the mean of both ways to the middle
+    flown.flying = True
+    judge('an abort', {'text': 'Aborted: orbit of 85 by 18 km', 'good': False}, craft.outcome(flown))
+    flown.engine = True
+    judge('the engine is on', {'text': '', 'good': False}, craft.outcome(flown))
+    flown.stage(1)
+    flown.mass = flown.dry
+    judge('the ascent stage is dry', {'text': 'Out of fuel', 'good': False}, craft.outcome(flown))
     flown = craft.Craft()
     flown.height, flown.up, flown.forward, flown.way, flown.tilt = -0.04, -0.004, -0.004, -0.4, -0.0001
     rows = dict(craft.Instrument(flown).view()['rows'])
