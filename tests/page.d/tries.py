@@ -12,6 +12,7 @@ import flights
 import opening
 import randoms
 import source
+import twins
 from firefox import Firefox
 from judge import TOP, attempt, depends_on_time, finish, judge
 from local import FILE, LocalPage, LocalSite, web
@@ -118,7 +119,7 @@ def try_firefox():
 
 
 TRIES = (
-    try_made, try_session, try_example, web.try_changes, web.try_stop, web.try_sizes, try_words, try_fallbacks, *flights.TRIES, *randoms.TRIES,
+    try_made, try_session, try_example, web.try_changes, web.try_stop, web.try_sizes, try_words, try_fallbacks, *flights.TRIES, *twins.TRIES, *randoms.TRIES,
     *opening.TRIES, *source.TRIES,
 )
 
