@@ -8,6 +8,7 @@ import shutil
 import subprocess
 import time
 
+import exercises
 import flights
 import opening
 import randoms
@@ -120,7 +121,7 @@ def try_firefox():
 
 TRIES = (
     try_made, try_session, try_example, web.try_changes, web.try_stop, web.try_sizes, try_words, try_fallbacks, *flights.TRIES, *twins.TRIES, *randoms.TRIES,
-    *opening.TRIES, *source.TRIES,
+    *opening.TRIES, *source.TRIES, *exercises.TRIES,
 )
 
 

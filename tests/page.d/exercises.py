@@ -1,0 +1,190 @@
+"""The landing's exercises as guided steps in agc.html: each is walked to its end by the strip's own buttons.
+
+What is wanted at the end is what the commands of examples/descent/README.md give here, and what agc, agc-study and agc-console make
+of the script that the page has then.
+"""
+import json
+import re
+import subprocess
+import sys
+
+from agc import Console
+from judge import CONSOLE, STUDY, check, judge, near
+from local import web
+from opening import file_of
+from site_of import example, wait
+from source import HAS_ASSEMBLER, press_in_strip, started, woven
+
+NAMES = example('descent', 'names')
+LONGEST = 600  # seconds that an exercise may take
+NEAR = 0.15  # m/s: the keys come at other times than those of craft.py
+PRIO10 = re.compile(r'PRIO10(?=\s+TC\s+NOVAC\s+2CADR\s+RANGEJOB)')
+END = 'That is all.'
+LOOK = """((before) => {
+    const what = find('strip-what').textContent;
+    if (!guiding.guide || what === 'Guided steps:') return before; // the next machine is being opened
+    const button = [...document.querySelectorAll('#strip-buttons button')].find((each) => each.className === 'main' || each.textContent === 'Next');
+    if (what !== before) button?.click();
+    return what;
+})"""
+"""Clicks what a new step of the strip offers, and returns what the step says."""
+
+
+def walk(page, guide, hands):
+    """Follows a guide to its end. `hands` has what a user does at a step, by the step's beginning: a function that gets whether the
+    step is new, because it is called at each look."""
+    steps = ['']
+    press_in_strip(page, guide)
+
+    def is_done():
+        """Looks at the strip; returns whether the guide is at its end."""
+        what = page.value(f'{LOOK}({json.dumps(steps[-1])})')
+        hand = next((hand for begin, hand in hands.items() if what.startswith(begin)), None)
+        if hand:
+            hand(what != steps[-1])
+        if what != steps[-1]:
+            steps.append(what)
+        return what == END
+
+    judge(f'{guide}: it comes to its end', True, wait(is_done, LONGEST))
+    wanted = page.value(f'guiding.guides.find(({{ title }}) => title === {json.dumps(guide)}).steps.map((each) => each.what)')
+    judge(f'{guide}: each step was shown', wanted, steps[1:-1])
+    judge(f'{guide}: its hands were needed', [], [begin for begin in hands if not any(each.startswith(begin) for each in steps)])
+
+
+def landing():
+    """Returns the source of the landing."""
+    with open(example('descent', 'descent.agc'), encoding='ascii') as file:
+        return file.read()
+
+
+def rope_with(name, old, new):
+    """Weaves the landing with one change by agc-study; returns the path of the rope."""
+    text, count = re.subn(old, new, landing(), flags=re.MULTILINE)
+    judge(f'{name}: one line changes', 1, count)
+    source = file_of(f'{name}.agc', text.encode())
+    return file_of(f'{name}.rope', subprocess.run([STUDY, 'weave', source], stdout=subprocess.PIPE, check=True).stdout)
+
+
+def flown(rope, *words):
+    """Flies a rope by craft.py; returns how fast it comes down, and the program at the end."""
+    command = [sys.executable, '-B', example('descent', 'craft.py'), '--rope', rope, *words]
+    said = subprocess.run(command, capture_output=True, text=True, check=True).stdout
+    found = re.search(r'on the ground: -([\d.]+) m/s up.*\n.*program (\d+)', said)
+    assert found
+    return float(found[1]), found[2]
+
+
+def judge_landing(what, page, rope, good):
+    """Judges a touchdown in the page: the rope, the speed and the program are those of craft.py's flight, and agc shows the same."""
+    with open(rope, 'rb') as file:
+        judge(f'{what}: the rope', file.read(), bytes(page.value('[...session.files.rope]')))
+    speed, program = flown(rope)
+    text = page.site.state()['instruments'][0]['outcome']['text']
+    found = re.search(r'(Landed|Crashed): ([\d.]+) m/s', text)
+    check(f'{what}: {text} has a speed', found)
+    judge(f'{what}: within the limits', good, found[1] == 'Landed')
+    near(f'{what}: m/s down', speed, float(found[2]), NEAR)
+    judge(f'{what}: the program', program, page.see('shown.panel.PROG', program, 60))
+    page.pause()
+    web.compare_with_agc(what, page, rope)
+
+
+def opened(name):
+    """Opens the page with a source and its guides."""
+    page = started()
+    page.value(f"openSourceExample('{name}').then(() => 0)")
+    judge(f'{name}: faults of its guides', [], page.value('guiding.faults'))
+    return page
+
+
+def try_throttle():
+    """The throttle's law: both rates, with the speed of the touchdown, and the program that shows."""
+    page = opened('descent')
+    ropes = {rate: rope_with(f'rate{rate}', '^ROD0    DEC     51', f'ROD0    DEC     {rate}') for rate in (96, 26)}
+
+    def judged(rate, good):
+        return lambda is_new: is_new and judge_landing(f'ROD0 DEC {rate}', page, ropes[rate], good)
+
+    walk(page, "Exercise: the throttle's law", {'Program 69': judged(96, False), 'It lands softly': judged(26, True)})
+    judge('the source is as before', woven(landing())[0], woven(page.value("find('source').value"))[0])
+    page.close()
+
+
+def codes_of(rope, script, cycle):
+    """Returns the alarm codes that a rope has after a script: first, second and last."""
+    with Console(rope, file_of('script', script.encode()), names=NAMES, program=[CONSOLE]) as console:
+        console.go_to(cycle)
+        return [f'{console.cell(place):05o}' for place in ('FAILREG', 'FAILREG+1', 'FAILREG+2')]
+
+
+def try_alarm():
+    """No 1202 comes with the other priority; the same script with the rope as it was brings one."""
+    page = opened('descent')
+    rope = rope_with('range', PRIO10.pattern, 'PRIO30')
+
+    def change(is_new):
+        """Writes the other priority, at its place alone: a whole text takes long."""
+        start, end = PRIO10.search(landing()).span() if is_new else (0, 0)
+        page.value(f"""{int(is_new)} && (() => {{
+            const area = find('source');
+            area.setRangeText('PRIO30', {start}, {start + 6}, 'end');
+            area.dispatchEvent(new Event('input'));
+        }})()""")
+
+    def read(is_new):
+        """Reads the codes that the page shows, and compares."""
+        if not is_new:
+            return
+        page.pause()
+        script, cycle = page.site.script(), page.cycle()
+        wanted = codes_of(rope, script, cycle)
+        judge('another alarm than 1202', '01201', wanted[0])
+        judge('the page shows it', f'_{wanted[0]}', page.value('shown.panel.R1'))
+        judge('the rope as it was', '01202', codes_of(example('descent', 'rope'), script, cycle)[0])
+        web.compare_with_agc('1201', page, rope)
+
+    walk(page, 'Exercise: take the 1202 away', {'In the source': change, 'It is 1201': read})
+    page.close()
+
+
+def try_engine():
+    """The engine's end: the order that shuts it down, and the interrupt that led there, are those of agc-study's trace."""
+    page = started()
+    page.value("openExample('descent').then(() => 0)")
+    trace = []
+
+    def on_ground(is_new):
+        """Finds in the trace of this flight what the exercise looks for, and then goes back by a second until the engine is on."""
+        if is_new:
+            script = file_of('script', page.site.script().encode())
+            words = [STUDY, 'trace', example('descent', 'rope'), script, '--names', NAMES, '--limit', str(page.cycle())]
+            writes = subprocess.run([*words, '--only', 'writes', '--channel', '11'], capture_output=True, text=True, check=True).stdout
+            trace.append(next(line for line in writes.splitlines()[::-1] if 'ENGOFF' in line).split())
+            before = subprocess.run([*words, '--to', trace[0][0], '--only', 'interrupts', '--last', '1'], capture_output=True, text=True, check=True).stdout
+            trace.append(before.split())
+        page.value("""document.querySelector('[data-back="1"]').click()""")
+
+    def played(is_new):
+        """Plays on after each stop that is not ENGOFF's."""
+        if not is_new:
+            page.value("now.playing || shown.machine.next.includes('ENGOFF') || ask('play'), undefined")
+
+    def seen(is_new):
+        if is_new:
+            orders = page.texts('#history li')
+            judge('the order', ['ENGOFF', '+2'], trace[0][2:4])
+            check('the page has it at its cycle', any(web_line(trace[0][0], each) and 'ENGOFF +2' in each for each in orders))
+            judge('the interrupt', 'T5RUPT', trace[1][3])
+            check('the page has that at its cycle', any(web_line(trace[1][0], each) and 'T5RUPT' in each for each in orders))
+
+    walk(page, "Exercise: the engine's end", {'Drag the slider': on_ground, 'Add "write': played, 'It was T5RUPT': seen})
+    page.close()
+
+
+def web_line(cycle, line):
+    """Whether a line under Orders is that of a cycle."""
+    return line.startswith(f'{int(cycle):,}')
+
+
+TRIES = (try_engine, *((try_throttle, try_alarm) if HAS_ASSEMBLER else ()))
