@@ -209,6 +209,7 @@ class Console:
         self._cycle = 0
         self._stop: Optional[str] = None
         self._is_deferring = False
+        self._room = 0  # for events that may wait
         self._waiting: List[str] = []
         self.on_answer: Optional[Callable[[str, Answer], None]] = None
         """Called with each command and its answer, if set; not for refused commands."""
@@ -220,15 +221,15 @@ class Console:
         self._errors = _message_file()
         try:
             self._process = subprocess.Popen(
-                words, stdin=subprocess.PIPE, stdout=subprocess.PIPE, stderr=self._errors, start_new_session=detached
+                words, bufsize=0, stdin=subprocess.PIPE, stdout=subprocess.PIPE, stderr=self._errors, start_new_session=detached
             )
         except OSError as error:
             self._errors.close()
             raise Ended(f"{words[0]}: {error.strerror}", None) from None
-        assert self._process.stdin and isinstance(self._process.stdout, io.BufferedReader)
-        self._commands: IO[bytes] = self._process.stdin
-        self._answers: io.BufferedReader = self._process.stdout
-        self._lines: Deque[bytes] = deque()  # lines of answers that were read and not taken
+        assert isinstance(self._process.stdin, io.FileIO) and isinstance(self._process.stdout, io.FileIO)
+        self._commands: io.FileIO = self._process.stdin
+        self._answers: io.FileIO = self._process.stdout
+        self._lines: Deque[str] = deque()  # lines of answers that were read and not taken
         self._begun = b""  # what was read of the next line
         try:
             self._base = [_event_of(line) for line in self.say("script").lines]
@@ -261,14 +262,12 @@ class Console:
         if os.getpid() == self._owner:
             with contextlib.suppress(Error):
                 self._send_waiting()
-        try:
+        with contextlib.suppress(BrokenPipeError):
             # A child that was forked keeps the pipe open, so that the console would wait for more commands. The child
             # itself ends nothing: the session belongs to the process that began it.
             if not self._commands.closed and os.getpid() == self._owner:
-                self._commands.write(b"quit\n")
-            self._commands.close()
-        except BrokenPipeError:
-            pass
+                self._send(b"quit\n")
+        self._commands.close()
         self._answers.close()
         try:
             self._process.wait(CLOSING)
@@ -318,18 +317,28 @@ class Console:
 
     def say(self, command: str) -> Answer:
         """Says a command, as docs/CONSOLE.md has them, and returns its answer; `Refused` if that is an error."""
+        answer = Answer(self._lines_of(command), self._cycle, self._stop)
+        if self.on_answer is not None:
+            self.on_answer(command, answer)
+        return answer
+
+    def _run(self, command: str) -> List[Write]:
+        """Says a command that runs the machine. Returns the channel writes on the way."""
+        return _writes(self._lines_of(command) if self.on_answer is None else self.say(command).lines)
+
+    def _lines_of(self, command: str) -> List[str]:
+        """Says a command, and returns the lines of its answer."""
         line, refused = _line(command), None
         waiting, self._waiting = self._waiting, []
         if self._commands.closed:
             raise Ended("the console is closed", self._process.returncode)
         try:
-            self._commands.write("\n".join([*waiting, ""]).encode() + line if waiting else line)
-            self._commands.flush()
+            self._send("\n".join([*waiting, ""]).encode() + line if waiting else line)
             if waiting:
                 refused = self._take_waiting(waiting)
-            answer = Answer(self._answer(), self._cycle, self._stop)
+            lines = self._answer()
             if not command.startswith("go "):  # which is the most frequent one, and keeps nothing
-                self._keep(command.split(), answer)
+                self._keep(command.split(), self._cycle)
         except BrokenPipeError:
             raise self._ended() from None
         except Error:
@@ -339,9 +348,7 @@ class Console:
             raise
         if refused is not None:
             raise refused
-        if self.on_answer is not None:
-            self.on_answer(command, answer)
-        return answer
+        return lines
 
     def say_all(self, commands: Sequence[str]) -> List[Answer]:
         """Says commands at once, which is quicker than one after another, and returns their answers. If some are refused,
@@ -362,15 +369,14 @@ class Console:
             raise Ended("the console is closed", self._process.returncode)
         done: List[Tuple[str, Answer]] = []
         try:
-            self._commands.write(lines)
-            self._commands.flush()
+            self._send(lines)
             for command in commands:
                 try:
                     done.append((command, Answer(self._answer(), self._cycle, self._stop)))
                 except Refused as refused:
                     refusals.append(refused)
                 else:
-                    self._keep(command.split(), done[-1][1])
+                    self._keep(command.split(), self._cycle)
         except BrokenPipeError:
             raise self._ended() from None
         except Error:
@@ -386,15 +392,10 @@ class Console:
     def _take_waiting(self, commands: List[str]) -> Optional[Refused]:
         """Reads the answers to events that have waited. Returns why the first of the refused ones was refused."""
         first = None
-        lines, injected, on_answer = self._lines, self._injected, self.on_answer
+        injected, on_answer = self._injected, self.on_answer
         for command in commands:
             try:
-                while not lines:
-                    self._read_more()
-                if lines[0].startswith(b"at "):  # the answer to an event that was taken
-                    self._cycle, self._stop = int(lines.popleft()[3:]), None
-                else:
-                    self._answer()
+                self._answer()
             except Refused as refused:
                 first = first or refused
                 continue
@@ -410,23 +411,28 @@ class Console:
 
     def _inject(self, command: str) -> None:
         """Injects an event: with the next command, if events are deferred and there is surely room for this one."""
-        if self._is_deferring and self._stop is None and command.isascii() and "\n" not in command:
-            waiting = len(self._waiting)
-            # there is surely room for it
-            if waiting < MOST_WAITING and len(self._base) + len(self._injected) + waiting < SURE_EVENTS:
-                self._waiting.append(command)
-                return
-        self.say(command)
+        if self._room > 0 and self._stop is None and command.isascii() and "\n" not in command:
+            self._room -= 1
+            self._waiting.append(command)
+        else:
+            self.say(command)
 
-    def _keep(self, words: List[str], answer: Answer) -> None:
+    def _count_room(self) -> None:
+        """Counts the events that may wait: as long as they are deferred, and the session surely has room."""
+        room = SURE_EVENTS - len(self._base) - len(self._injected)
+        self._room = min(room, MOST_WAITING) if self._is_deferring else 0
+
+    def _keep(self, words: List[str], cycle: int) -> None:
         """Keeps what the script of the session is made of, so that it is available after the console has ended, too."""
         if words[0] in EVENTS:
-            self._injected.append((answer.cycle, " ".join(words)))
+            self._injected.append((cycle, " ".join(words)))
+            self._count_room()
         elif words[0] == "back":
             # only `back C` drops the events at the cycle
             way = words[2:] if words[1] == "list" else words[1:]
-            last = answer.cycle if way[0] in ("until", "step") else answer.cycle - 1
+            last = cycle if way[0] in ("until", "step") else cycle - 1
             self._injected = [pair for pair in self._injected if _event_after(*pair).cycle <= last]
+            self._count_room()
         elif words[0] == "quiet":
             self._quiet = words[1:] != ["off"]
 
@@ -437,26 +443,30 @@ class Console:
             while not self._lines:
                 self._read_more()
             line = self._lines.popleft()
-            if line.startswith(b"at "):
+            if line.startswith("at "):
                 self._cycle, self._stop = int(line[3:]), None
                 return lines
-            text = line.decode()
-            first, _, rest = text.partition(" ")
-            if first == "stop":
-                self._stop, _, cycle = rest.partition(" at ")
+            if line.startswith("stop "):
+                _, self._stop, _, cycle = line.split(" ")
                 self._cycle = int(cycle)
                 return lines
-            if first == "error:":
-                raise _refused(rest)
-            lines.append(text)
+            if line.startswith("error: "):
+                raise _refused(line[len("error: "):])
+            lines.append(line)
+
+    def _send(self, lines: bytes) -> None:
+        """Writes commands to the console. A signal may cut a write short."""
+        while lines:
+            lines = lines[self._commands.write(lines):]
 
     def _read_more(self) -> None:
         """Reads what the console has printed by now, or waits for it."""
-        found = self._answers.read1(READ_AT_ONCE)
+        found = self._answers.read(READ_AT_ONCE)
         if not found:
             raise self._ended()
-        *lines, self._begun = (self._begun + found).split(b"\n")
-        self._lines.extend(lines)
+        whole, end, self._begun = (self._begun + found).rpartition(b"\n")
+        if end:
+            self._lines.extend(whole.decode().split("\n"))
 
     def _ended(self) -> Ended:
         status = self._process.wait()
@@ -468,11 +478,11 @@ class Console:
 
     def go(self, cycles: int) -> List[Write]:
         """Runs for a number of cycles. Returns the channel writes on the way, like all methods that run the machine."""
-        return _writes(self.say(f"go {cycles}"))
+        return self._run(f"go {cycles}")
 
     def go_to(self, cycle: int) -> List[Write]:
         """On until a cycle is reached or passed: the last order, interrupt or step may end past it."""
-        return _writes(self.say(f"go to {cycle}"))
+        return self._run(f"go to {cycle}")
 
     def step(self, boundaries: int = 1) -> List[str]:
         """So many boundaries, each an order, an event, a timer's step or an interrupt. Returns their lines, as
@@ -494,7 +504,7 @@ class Console:
     def _until(self, what: str, within: Optional[int]) -> Came:
         bound = "" if within is None else f" within {within}"
         answer = self.say(f"until {what}{bound}")
-        return Came("came yes" in answer.lines, _writes(answer))
+        return Came("came yes" in answer.lines, _writes(answer.lines))
 
     # breakpoints
 
@@ -538,7 +548,7 @@ class Console:
         at least, so that it leaves the place at which it stopped before."""
         answer = self.say("continue" if within is None else f"continue within {within}")
         hits = [line for line in answer.lines if line.startswith("hit ")]
-        return Hit(None if hits == ["hit none"] else _breakpoint(hits[0]), _writes(answer))
+        return Hit(None if hits == ["hit none"] else _breakpoint(hits[0]), _writes(answer.lines))
 
     def quiet(self, on: bool = True) -> None:
         """From now on methods that run the machine return no channel writes; `quiet(False)` ends that. `writes` needs them,
@@ -610,6 +620,7 @@ class Console:
             raise TypeError("deferred or not: True or False")
         self._send_waiting()
         self._is_deferring = on and self._options["limit"] is None
+        self._count_room()
 
     def key(self, name: str) -> None:
         """A key goes down: "0" to "9", "+", "-", "VERB", "NOUN", "ENTR", "CLR", "RSET" or "KEYREL"."""
@@ -793,10 +804,10 @@ def _breakpoint(line: str) -> Breakpoint:
     return Breakpoint(int(number), what)
 
 
-def _writes(answer: Answer) -> List[Write]:
-    """The channel writes of an answer."""
+def _writes(lines: List[str]) -> List[Write]:
+    """The channel writes of an answer's lines."""
     found: List[Write] = []
-    for line in answer.lines:
+    for line in lines:
         if line.startswith("write "):
             _, cycle, channel, value = line.split(" ")
             found.append(Write(int(cycle), int(channel, 8), int(value, 8)))

@@ -4,8 +4,10 @@ A row of the table holds what craft.py takes as options, and the restarts. A wor
 """
 
 import argparse
+import functools
 import hashlib
 import os
+import subprocess
 
 from agc import Console, Refused
 from craft import (
@@ -209,6 +211,19 @@ def touchdown_of(craft):
         return ["", "", "", ""]
     up, forward, tilt, way = craft.touched
     return [f"{up:.3f}", f"{forward:.3f}", f"{tilt:.3f}", f"{-way:.2f}"]
+
+
+@functools.lru_cache(maxsize=None)
+def program_behind(program):
+    """Returns the program that a launcher of this repository starts, because the launcher takes longer than the program. It is
+    looked for once in each process."""
+    finder = os.path.join(os.path.dirname(program), "launch", "build")
+    if not os.access(program, os.X_OK) or not os.path.exists(finder):
+        return program
+    found = subprocess.run([finder, os.path.basename(program)], stdout=subprocess.PIPE, stderr=subprocess.PIPE, text=True)
+    if found.returncode:
+        raise RuntimeError(found.stderr.strip() or f"{program} does not start")
+    return found.stdout.strip()
 
 
 def fly_row(row, files, program, folder):

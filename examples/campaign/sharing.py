@@ -13,6 +13,14 @@ from concurrent.futures import CancelledError
 
 PATIENCE = 15  # seconds for a scheduler to answer, and for it to have a worker
 
+UNWATCHED = {
+    "distributed.worker.profile.enabled": False,
+    "distributed.admin.tick.interval": "1s",
+    "distributed.admin.system-monitor.interval": "10s",
+}
+"""Settings of Dask for a local cluster, whose dashboard nobody opens. By default each worker samples its stack a hundred times a
+second, and each process checks itself fifty times a second, which takes an eighth of a flight's time."""
+
 
 class Mistake(Exception):
     """A wrong argument or file; its text says what to do."""
@@ -134,12 +142,13 @@ def cluster_of(options):
     if options.scheduler:
         yield options.scheduler
         return
+    import dask.config
     from distributed import LocalCluster
 
     folder = tempfile.mkdtemp()
     how = {"dashboard_address": ":0", "local_directory": folder, "silence_logs": 50}
     try:
-        with LocalCluster(n_workers=options.workers, threads_per_worker=1, **how) as cluster:
+        with dask.config.set(UNWATCHED), LocalCluster(n_workers=options.workers, threads_per_worker=1, **how) as cluster:
             yield cluster
     finally:
         shutil.rmtree(folder, ignore_errors=True)

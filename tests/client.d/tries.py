@@ -376,6 +376,25 @@ def try_quiet():
         judge("writes again", [Write(170478, 0o10, 0o30003)], list(agc.writes(until=200000)))
 
 
+def try_signals():
+    """a command that is longer than a pipe, and is written among signals: each may cut a write short"""
+    came = []
+    with example("keys") as agc:
+        signal.signal(signal.SIGALRM, lambda number, frame: came.append(number))
+        signal.setitimer(signal.ITIMER_REAL, 0.001, 0.001)
+        patience = threading.Timer(60, agc.kill)
+        patience.start()
+        try:
+            long = refused(agc.say, "go " + "1" * (1 << 24))
+        finally:
+            patience.cancel()
+            signal.setitimer(signal.ITIMER_REAL, 0)
+        judge("it arrives whole, and is too long", "LineTooLong", long[0])
+        judge("there were signals", True, came != [])
+        agc.key("4")
+        judge("the session goes on", "0 key 4\n", agc.script())
+
+
 def try_odd_words():
     """what cannot be sent, and files whose names look like options"""
     with example("keys") as agc:
@@ -615,7 +634,7 @@ def try_versions():
 depends_on_time()
 for each in (
     try_versions, try_keys, try_events, try_deferred, try_until, try_writes, try_names, try_breakpoints,
-    try_panel_breakpoints, try_backwards, try_ahead, try_banks, try_numbers, try_quiet, try_odd_words, try_children, try_left_scripts, try_save, try_full_disk,
+    try_panel_breakpoints, try_backwards, try_ahead, try_banks, try_numbers, try_quiet, try_signals, try_odd_words, try_children, try_left_scripts, try_save, try_full_disk,
     try_deaths, try_rope_changes, try_faults,
 ):
     attempt(each)
