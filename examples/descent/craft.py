@@ -570,13 +570,14 @@ class Instrument:
 def show_in_browser(words, craft):
     """Shows craft and DSKY in a browser until Control-C."""
     import agc_web
-    from agc_web.beside import guide_text, opened
+    from agc_web.beside import Beside, opened, text_of
     from agc_web.command import attached
 
     instrument = Instrument(craft, words.seed, lambda seed: craft_of(words, seed))
     start = lambda names: Console(words.rope, words.script, names=names, program=words.program, detached=True)
     note = lambda text: print(f"craft: {text}", file=sys.stderr)
-    agc, found = opened(start, None, None, words.rope, note)
+    guide, listing = (text_of(kind, None, words.rope, note) for kind in ("guide", "listing"))
+    agc, found = opened(start, Beside(listing=listing), words.rope, note)
     others = attached(words.instruments, words.listen)
 
     def begin(session):
@@ -587,8 +588,8 @@ def show_in_browser(words, craft):
     with agc:
         try:
             agc_web.serve(
-                agc, [instrument], port=words.port, names=found.names, watch=found.watch, save=words.save,
-                guide=guide_text(None, words.rope, note), listen=words.listen, begin=begin,
+                agc, [instrument], port=words.port, guide=guide, save=words.save, listen=words.listen, begin=begin,
+                **found._asdict(),
             )
         except OSError as error:
             sys.exit(f"craft: {'port' if error.filename is None else error.filename}: {error.strerror}")

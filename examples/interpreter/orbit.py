@@ -189,9 +189,9 @@ def show_in_browser(port):
     """Shows DSKY and orbit in a browser until Control-C."""
     import agc_web
     import orbit_view
-    from agc_web.beside import guide_text
+    from agc_web.beside import text_of
 
-    guide = guide_text(None, ROPE, lambda text: print(f"orbit.py: {text}", file=sys.stderr))
+    guide = text_of("guide", None, ROPE, lambda text: print(f"orbit.py: {text}", file=sys.stderr))
     with Console(ROPE, names=NAMES, detached=True) as console:
         try:
             agc_web.serve(console, [orbit_view.Instrument()], port=port, names=NAMES, guide=guide)

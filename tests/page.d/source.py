@@ -358,7 +358,7 @@ def try_without():
     """
     page = started()
     LocalPage.before = ''
-    judge('no tab, no button', [None, None], page.value("[document.querySelector('#source-tab, #source-panel'), document.querySelector('#write-button, #source-list')]"))
+    judge('no tab, no button', [None, None], page.value("[document.querySelector('#source-tab, #source-edit'), document.querySelector('#write-button, #source-list')]"))
     page.value(f"location.hash = 'source={packed(7)}'; undefined")
     judge('a link says so', True, wait(lambda: 'this page has no assembler' in page.notice()))
     page.close()

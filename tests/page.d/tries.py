@@ -10,6 +10,7 @@ import time
 
 import exercises
 import flights
+import listing
 import opening
 import randoms
 import source
@@ -121,7 +122,7 @@ def try_firefox():
 
 TRIES = (
     try_made, try_session, try_example, web.try_changes, web.try_stop, web.try_sizes, try_words, try_fallbacks, *flights.TRIES, *twins.TRIES, *randoms.TRIES,
-    *opening.TRIES, *source.TRIES, *exercises.TRIES,
+    *opening.TRIES, *source.TRIES, *exercises.TRIES, *(listing.TRIES if source.HAS_ASSEMBLER else ()),
 )
 
 

@@ -1,10 +1,13 @@
-"""Files beside a rope's: its names, the SPEC of the Executive's tables, and guided steps.
+"""Files beside a rope's: its names, the SPEC of the Executive's tables, guided steps, and the listing of its source.
 
-For the rope X these are the files X.names, X.watch and X.guide; for a file that is called `rope` also `names`, `watch` and
-`guide`.
+For the rope X these are the files X.names, X.watch, X.guide and X.listing; for a file that is called `rope` also `names`,
+`watch`, `guide` and `listing`.
 """
 
+import atexit
 import os
+import shutil
+import tempfile
 from contextlib import suppress
 from typing import Callable, NamedTuple, Optional, Tuple
 
@@ -17,53 +20,62 @@ Note = Callable[[str], None]
 """Says something to the user."""
 
 LONGEST_SPEC = 200  # characters
-LONGEST_GUIDE = 65536  # bytes
+LONGEST = {"guide": 65536, "listing": 16_777_216}  # bytes
 
 
 class Beside(NamedTuple):
-    """A file of names, and the tables' SPEC; None for what there is not."""
+    """A file of names, the tables' SPEC, and the text of a listing; None for what there is not."""
 
-    names: Optional[str]
-    watch: Optional[str]
-
-
-def beside(rope: agc.Path) -> Beside:
-    """Returns what the files beside a rope's say."""
-    return Beside(_file_beside(os.fspath(rope), "names"), _first_line(_file_beside(os.fspath(rope), "watch")))
+    names: Optional[str] = None
+    watch: Optional[str] = None
+    listing: Optional[str] = None
 
 
-def opened(
-    start: Start, names: Optional[str], watch: Optional[str], rope: agc.Path, note: Note,
-) -> Tuple[agc.Console, Beside]:
-    """Starts a console with names and tables: those that were named, else those of the files beside the rope. `start` starts
-    a console with a file of names. If a file beside the rope is refused, `note` says why, and the console does without.
-    Raises `agc.Error` if something else is refused."""
-    found = beside(rope)
-    console, names = _with_names(start, names, found.names, note)
+def opened(start: Start, named: Beside, rope: agc.Path, note: Note) -> Tuple[agc.Console, Beside]:
+    """Starts a console with names and tables: those that were named, else those of the files beside the rope; names may also
+    be those of the listing. `start` starts a console with a file of names. If what was not named is refused, `note` says
+    why, and the console does without. Raises `agc.Error` if something else is refused."""
+    path = os.fspath(rope)
+    found = _file_beside(path, "names") or _names_of(named.listing or "")
+    console, names = _with_names(start, named.names, found, note)
     try:
-        return console, Beside(names, _with_tables(console, watch, found.watch, note))
+        watch = _with_tables(console, named.watch, _first_line(_file_beside(path, "watch")), note)
+        return console, Beside(names, watch, named.listing)
     except agc.Error:
         console.close()
         raise
 
 
-def guide_text(named: Optional[str], rope: agc.Path, note: Note) -> Optional[str]:
-    """Returns the text of a file of guided steps: the one that was named, else the one beside the rope; None if there is
-    none. If the file beside the rope cannot be read, `note` says why. Raises `OSError` for one that was named."""
-    path = named if named is not None else _file_beside(os.fspath(rope), "guide")
+def text_of(kind: str, named: Optional[str], rope: agc.Path, note: Note) -> Optional[str]:
+    """Returns the text of guided steps or of a listing: of the file that was named, else of the one beside the rope; None if
+    there is none. If the file beside the rope cannot be read, `note` says why. Raises `OSError` for one that was named."""
+    path = named if named is not None else _file_beside(os.fspath(rope), kind)
     if path is None:
         return None
     try:
         with open(path, "rb") as file:
-            text = file.read(LONGEST_GUIDE + 1)
-        if len(text) > LONGEST_GUIDE:
-            raise OSError(0, f"a guide has {LONGEST_GUIDE} bytes at most", path)
+            text = file.read(LONGEST[kind] + 1)
+        if len(text) > LONGEST[kind]:
+            raise OSError(0, f"a {kind} has {LONGEST[kind]} bytes at most", path)
     except OSError as error:
         if named is not None:
             raise OSError(error.errno or 0, error.strerror or str(error), path) from None
         note(f"{path} is left out: {error.strerror}")
         return None
     return text.decode(errors="replace")
+
+
+def _names_of(listing: str) -> Optional[str]:
+    """Returns the path of a file with the names at the end of a listing, if it has any; the file stays until we end."""
+    names = listing.partition("\n# names\n")[2].partition("# banks\n")[0].replace("# ", "")
+    if not names:
+        return None
+    folder = tempfile.mkdtemp()
+    atexit.register(shutil.rmtree, folder, ignore_errors=True)
+    path = os.path.join(folder, "names")
+    with open(path, "w", encoding="utf-8") as file:
+        file.write(names)
+    return path
 
 
 def _with_names(start: Start, named: Optional[str], found: Optional[str], note: Note) -> Tuple[agc.Console, Optional[str]]:

@@ -7,11 +7,12 @@ import socket
 import sys
 import threading
 import webbrowser
+from base64 import b64encode
 from contextlib import suppress
 from typing import Any, Callable, Dict, List, Optional, Sequence, Tuple
 
 import agc
-from agc_web.beside import guide_text, opened
+from agc_web.beside import Beside, opened, text_of
 from agc_web.clock import SPEEDS
 from agc_web.ending import UNSAVED, Ending
 from agc_web.film import Films
@@ -35,6 +36,7 @@ def serve(
     watch: Optional[str] = None,
     names: Optional[str] = None,
     guide: Optional[str] = None,
+    listing: Optional[str] = None,
     form: Optional[str] = None,
     save: Optional[str] = None,
     open_page: bool = False,
@@ -46,7 +48,7 @@ def serve(
     The console is at cycle 0, and `detached`. `instruments` are described in agc_web.ticks. The port is 8437, or
     a free one if that is taken and none is named. `listen` is the
     address, which other computers may reach: then the page has the printed address in large letters. `guide` is the text of
-    guided steps. `begin` is called with the session before time can run. Raises
+    guided steps, `listing` that of the source's listing. `begin` is called with the session before time can run. Raises
     `OSError` if the port cannot be had, or if the script cannot be saved or would replace something; its `filename` says
     which of them. A signal that comes after the script was saved or printed ends the program at once."""
     file = ScriptFile(save) if save is not None else None
@@ -56,7 +58,9 @@ def serve(
         ending.kill = lambda: _kill(console, films)
         server = None
         try:
-            server = _bound(session, _about(console, names, watch, guide), port, films, listen)
+            about = {**_about(console, names, watch, guide), "listing": listing is not None}
+            server = _bound(session, about, port, films, listen)
+            server.source = {"listing": listing, "rope": b64encode(console.rope_bytes or b"").decode(), "form": form}
             if begin is not None:
                 begin(session)
             server.start()
@@ -75,15 +79,15 @@ def main(words: Optional[List[str]] = None) -> int:
     try:
         if asked.save is not None:
             ScriptFile(asked.save)
-        guide = guide_text(asked.guide, asked.rope, _say)
+        guide, listing = (text_of(kind, vars(asked)[kind], asked.rope, _say) for kind in ("guide", "listing"))
     except OSError as error:
         return _refused(f"{error.filename}: {error.strerror}", REFUSED)
     try:
         start = lambda names: agc.Console(asked.rope, asked.script, form=asked.form, names=names, detached=True)
-        console, found = opened(start, asked.names, asked.watch, asked.rope, _say)
+        console, found = opened(start, Beside(asked.names, asked.watch, listing), asked.rope, _say)
         with console:
             serve(
-                console, port=asked.port, watch=found.watch, names=found.names, guide=guide, form=asked.form,
+                console, port=asked.port, guide=guide, form=asked.form, **found._asdict(),
                 save=asked.save, open_page=asked.open, listen=asked.listen, begin=attached(asked.instruments, asked.listen),
             )
     except agc.Error as error:
@@ -115,6 +119,7 @@ def _arguments() -> argparse.ArgumentParser:
     words.add_argument("--names", metavar="FILE", help="a file that gives places names (ROPE.names, or names beside a file rope)")
     words.add_argument("--watch", metavar="SPEC", help="where the Executive's tables stand, as for agc (the file ROPE.watch, or watch)")
     words.add_argument("--guide", metavar="FILE", help="a file of guided steps (ROPE.guide, or guide beside a file rope)")
+    words.add_argument("--listing", metavar="FILE", help="the source's lines, by agc-study weave --write-listing (ROPE.listing, or listing)")
     words.add_argument("--form", metavar="FORM", choices=("classic", "parity"), help="the rope's form: classic or parity")
     words.add_argument("--port", metavar="N", type=int, help=f"the port ({PORT}, or a free one)")
     words.add_argument("--listen", metavar="ADDRESS", default=HERE, help=f"the address of page and instruments ({HERE})")

@@ -40,9 +40,9 @@ TYPES = {
 FILES = {
     name: os.path.join(PAGE, *name.split("/"))
     for name in (
-        "face/face.css", "web/view.css", "web/web.css", "web/phone.css", "face/shapes.js", "face/draw.js", "face/show.js",
+        "face/face.css", "web/view.css", "web/web.css", "web/listing.css", "web/phone.css", "face/shapes.js", "face/draw.js", "face/show.js",
         "web/session.js", "web/elements.js", "web/words.js", "web/dsky.js", "web/inspector.js", "web/drawing.js", "web/view.js",
-        "web/instruments.js", "web/guide.js", "web/why.js", "web/web.js", "web/icon.svg",
+        "web/instruments.js", "web/guide.js", "web/why.js", "web/listing.js", "web/lines.js", "web/web.js", "web/icon.svg",
     )
 }
 POLICY = (
@@ -71,6 +71,8 @@ class Server(ThreadingHTTPServer):
         self.session = session
         self.about = about
         self.films = films
+        self.source: Dict[str, Any] = {}
+        """What the page compares before it shows the source: a listing and the rope."""
         self.gate = Gate(is_short=is_reachable(listen))
         self.room = Room()
         self._holder = ""
@@ -334,6 +336,8 @@ class Handler(BaseHTTPRequestHandler):
                        Content_Disposition='attachment; filename="session.script"')
         elif path == "/film":
             self._send_film()
+        elif path == "/source":
+            self._send_json(self.server.source)
         elif path[1:] in FILES:
             with open(FILES[path[1:]], "rb") as file:
                 self._send(file.read(), TYPES[os.path.splitext(path)[1]])

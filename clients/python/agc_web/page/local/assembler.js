@@ -6,7 +6,7 @@ const LARGEST_SOURCE = 1e6; // characters
 // The worker, from the first text on; the weaving that was asked for last; and how many milliseconds one may take.
 const assembling = { worker: null, last: Promise.resolve(), longest: 60000 };
 
-// Weaves a text. Returns {status, said, explained, rope, names, listing} as the worker has them, or {error}.
+// Weaves a text. Returns {status, said, explained, rope, names, listing, lines} as the worker has them, or {error}.
 function weaveText(text) {
   if (text.length > LARGEST_SOURCE) {
     return { error: `The text is too long: ${grouped(text.length)} characters, at most ${grouped(LARGEST_SOURCE)}.` };

@@ -3,6 +3,7 @@
 
 const FILES = 'agc.files';
 const REST = 'agc.session';
+const LISTING = 'agc.listing'; // of the files, if they have one
 const OWNER = 'agc.owner';
 const OTHER = 'agc.other'; // a session that could not be read
 const SOON = 300; // milliseconds after a change
@@ -30,7 +31,20 @@ function beginToKeep() {
     store.setItem(FILES, text);
   });
   if (!keeping.is) sayNotKept();
+  keepListingText(session.files.listing ?? '');
   keepNow();
+}
+
+// Keeps the text of a listing, if there is room beside the session.
+function keepListingText(text) {
+  inStore((store) => store.removeItem(LISTING));
+  if (text && !inStore((store) => store.setItem(LISTING, text))) say('This browser has no room for the listing, so a reload loses it.');
+}
+
+function keptListing() {
+  let text = null;
+  inStore((store) => { text = store.getItem(LISTING); });
+  return text;
 }
 
 function sayNotKept() {
@@ -55,7 +69,7 @@ function keepNow() {
 // Forgets what is kept.
 function forget() {
   keeping.is = false;
-  inStore((store) => [FILES, REST, OWNER, OTHER].forEach((name) => store.removeItem(name)));
+  inStore((store) => [FILES, REST, LISTING, OWNER, OTHER].forEach((name) => store.removeItem(name)));
 }
 
 // The text of the session that is kept, or null.

@@ -62,7 +62,7 @@ async function openKept() {
   say('The session that this browser keeps is coming back. A long one takes some seconds.');
   try {
     const { files, kept } = readSession(text);
-    why = await session.open(files, kept);
+    why = await session.open({ ...files, listing: keptListing() }, kept);
   } catch (error) {
     why = error.message;
   }
@@ -78,11 +78,12 @@ async function openKept() {
 
 // files of the user
 
-// What a file is, by its name or what is in it: a rope, script, names, the tables' SPEC, or guided steps.
+// What a file is, by its name or what is in it: a rope, script, names, the tables' SPEC, guided steps, or a listing.
 function kindOf(name, bytes) {
-  const kind = name.toLowerCase().match(/(^|\.)(rope|script|names|watch|guide)(\.txt)?$/)?.[2];
+  const kind = name.toLowerCase().match(/(^|\.)(rope|script|names|watch|guide|listing)(\.txt)?$/)?.[2];
   if (kind) return kind;
   const text = new TextDecoder().decode(bytes.subarray(0, 1e5));
+  if (isListing(text)) return 'listing';
   if (!/^[\t\n\r -~]+$/.test(text)) return 'rope';
   return text.split('\n').slice(0, -1).every((line) => SCRIPT_LINE.test(line)) ? 'script' : 'names';
 }
@@ -95,7 +96,7 @@ async function openFiles(list) {
     return;
   }
   for (const file of list) {
-    if (file.size > LARGEST_FILE) {
+    if (file.size > (isListingName(file.name) ? LARGEST_LISTING : LARGEST_FILE)) {
       say(`${file.name} is no rope or script: it has ${grouped(file.size)} bytes.`);
       return;
     }
@@ -113,7 +114,7 @@ async function openFiles(list) {
   const files = {
     ...before, script: script?.text ?? (rope ? '' : before.script), names: names?.text ?? (rope ? null : before.names),
     watch: watch?.text.split('\n')[0].trim() ?? (rope ? null : before.watch),
-    guide: guide?.text ?? (rope ? null : before.guide), form: find('parity').checked ? 'parity' : null,
+    guide: guide?.text ?? (rope ? null : before.guide), listing: found.listing?.text ?? (rope ? null : before.listing), form: find('parity').checked ? 'parity' : null,
   };
   if (await openAndSay(files, null, '')) beginToKeep();
 }

@@ -82,7 +82,7 @@ async function callEngine(call, body) {
 
 const session = {
   lost: 'The machine has failed. Reload the page: what this browser has kept is still there.',
-  files: null, // {title, rope, script, names, form, watch, guide, example, instrument, options} of the session
+  files: null, // {title, rope, script, names, form, watch, guide, listing, example, instrument, options} of the session
 
   listen(news, reached) {
     page = { news, reached };
@@ -94,13 +94,14 @@ const session = {
   find: (wanted) => callEngine('find', wanted),
   script: async () => (await callEngine('script')).script,
   weave: (text) => weaveText(text),
+  source: async () => ({ listing: await listingOf(session.files), rope: session.files.rope, form: session.files.form }),
   scriptAddress: '#script',
   filmAddress: '#film',
 
   // Opens a rope, with what was kept of a session of it. Returns why that is refused, or nothing: then its session is the page's.
   async open(files, kept = null) {
     const opened = new Engine(() => page.reached(false));
-    const answer = await opened.call('open', { ...files, module: moduleNow(), kept });
+    const answer = await opened.call('open', { ...files, names: files.names ?? namesIn(files.listing), listing: hasListing(files), module: moduleNow(), kept });
     if (answer.status !== 200) {
       opened.close();
       return answer.error;

@@ -55,11 +55,12 @@ async function weaveSource() {
   const text = sourceText();
   const woven = await session.weave(text);
   if (text !== sourceText()) return null;
-  writing.woven = woven;
+  writing.woven = { ...woven, text };
   writing.faults = woven.error ? [{ line: 0, text: woven.error }] : faultsIn(woven);
   showFaults();
   setText(find('source-said'), text.trim() ? summaryOf(woven) : '');
   followGuide();
+  followInEditor();
   return woven;
 }
 
@@ -92,10 +93,10 @@ async function checkSource() {
 }
 
 // The files of the session that runs what was woven: with the instrument, tables and guide of the example from which it came.
-function filesOfSource({ name, example }, { rope, names }) {
+function filesOfSource({ name, example }, { rope, names, lines }) {
   const { opens = null, guide = null } = SOURCES[example] ?? {};
   const from = opens ? filesOfExample(opens) : { script: '', watch: null, guide: null, example: null, instrument: null, options: null };
-  return { ...from, title: name, rope, names, form: null, guide: guide ?? from.guide };
+  return { ...from, title: name, rope, names, listing: lines, form: null, guide: guide ?? from.guide };
 }
 
 // Opens a session of the text, if it has no fault. Returns whether it did. The guided steps go on where they were.
@@ -116,6 +117,7 @@ async function openWoven() {
   writing.run = done.text;
   setText(find('source-listed'), `${woven.listing}${woven.names ? `\nNames:\n${woven.names}` : ''}`);
   showTab('source');
+  showEditor(true);
   return true;
 }
 
@@ -164,6 +166,7 @@ function goToLine(line) {
   const lines = sourceText().split('\n');
   const start = lines.slice(0, line - 1).reduce((at, each) => at + each.length + 1, 0);
   const area = find('source');
+  showEditor(true);
   area.focus();
   area.setSelectionRange(start, start + (lines[line - 1] ?? '').length);
   area.scrollTop = Math.max(0, (line - 4) * parseFloat(getComputedStyle(area).lineHeight));
@@ -181,6 +184,7 @@ function showSource(source) {
   setText(find('source-said'), '');
   find('source-back').hidden = !writing.before;
   find('source').scrollTop = 0;
+  showEditor(true);
   showFaults();
 }
 
@@ -202,6 +206,7 @@ async function openSourceExample(name) {
 
 function showSourceTab() {
   showTab('source');
+  showEditor(true);
   if (!sourceText()) openSourceExample('first');
 }
 
@@ -349,20 +354,20 @@ function onSourceInput() {
 function buildSource() {
   window.addEventListener('hashchange', openLinkedSource);
   if (!HAS_ASSEMBLER) return;
-  TABS.source = 'Source';
   const file = make('input', { type: 'file', id: 'source-file', class: 'unseen', tabindex: '-1', accept: '.agc,.words,.txt,text/plain', 'aria-label': 'A file with a source' });
   file.addEventListener('change', () => openSourceFile(file.files[0]).then(() => { file.value = ''; }));
   const area = make('textarea', { id: 'source', spellcheck: 'false', autocomplete: 'off', autocapitalize: 'off', wrap: 'off', maxlength: LARGEST_SOURCE, 'aria-label': 'The source', 'aria-describedby': 'source-said source-note' });
   area.addEventListener('input', onSourceInput);
   area.addEventListener('keydown', onSourceKey);
   area.addEventListener('scroll', scrollLines);
-  find('inspector').append(make('div', { id: 'source-panel', class: 'panel', role: 'tabpanel', tabindex: '0' },
+  find('source-panel').append(make('div', { id: 'source-edit' },
     sourceButtons(file),
     make('div', { id: 'source-area' }, make('pre', { id: 'source-lines', 'aria-hidden': 'true' }), area, make('div', { id: 'source-window', 'aria-hidden': 'true' }, make('div', { id: 'source-marks' }))),
     make('p', { id: 'source-said', role: 'status' }), make('ul', { id: 'source-faults', 'aria-label': 'Faults' }),
     make('p', { id: 'source-note', class: 'note' }, 'Names begin in the first column, orders after it. Tab goes to the next column of eight, Escape leaves the text, Ctrl+Enter weaves and runs it. This browser keeps the text.'),
     make('details', {}, make('summary', {}, 'The language on one page'), make('pre', { id: 'source-language' }, dataOf('language'))),
     make('details', {}, make('summary', {}, 'Names and listing'), make('pre', { id: 'source-listed' }, 'Weave and run first.'))));
+  buildSourceLines();
   find('open-button').before(button('Write …', showSourceTab, { id: 'write-button' }));
   openKeptSource();
 }

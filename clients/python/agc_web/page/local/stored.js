@@ -60,7 +60,7 @@ function filesOf({ title, rope, script, names, form, watch, guide, example, opti
   if (!rope && !from.rope) throw new Error('it has no rope');
   return {
     title, rope: bytesOf(rope ?? from.rope), script: script ?? from.script ?? '', names: names ?? null, form: form ?? null, watch: watch ?? null,
-    guide: guide ?? from.guide ?? null, example: example ?? null, instrument: from.instrument ?? null, options: options ?? null,
+    guide: guide ?? from.guide ?? null, listing: null, example: example ?? null, instrument: from.instrument ?? null, options: options ?? null,
   };
 }
 

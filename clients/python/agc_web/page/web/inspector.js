@@ -11,7 +11,7 @@ const CHANNELS = [
   [0o16, 'key of the navigation DSKY, marks'], [0o30, 'inputs: stage, engine, IMU'], [0o31, 'inputs: hand controllers, modes'],
   [0o32, 'inputs: thrusters, PRO'], [0o33, 'inputs: radar, optics, PIPA'], [0o34, 'downlink, first word'], [0o35, 'downlink, second word'],
 ];
-const TABS = { orders: 'Orders', memory: 'Memory', watch: 'Watch', channels: 'Channels', tables: 'Tables', why: 'Alarm', breaks: 'Breaks', script: 'Script' };
+const TABS = { orders: 'Orders', memory: 'Memory', watch: 'Watch', channels: 'Channels', tables: 'Tables', why: 'Alarm', breaks: 'Breaks', script: 'Script', source: 'Source' };
 
 const inspector = { tab: 'orders', bank: 0, words: null, watched: [], looking: false, stale: false, lookedAt: 0, cycle: -1, events: -1 };
 
@@ -39,6 +39,7 @@ function showTab(name) {
   look();
   showScript();
   scrollHistory();
+  showListing();
 }
 
 // The arrow keys go from tab to tab.

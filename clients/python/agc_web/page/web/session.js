@@ -29,6 +29,13 @@ const session = {
   // the cycle at which the order before it began; or an `error`.
   find: (wanted) => post('find', wanted),
 
+  // Returns what the page compares before it shows the source: the text of a listing, and the bytes and the form of the rope.
+  async source() {
+    const response = await fetch('source');
+    const { listing, rope, form } = await response.json();
+    return { listing, rope: Uint8Array.from(atob(rope), (sign) => sign.charCodeAt(0)), form };
+  },
+
   // Returns the script that repeats the session.
   async script() {
     const response = await fetch(session.scriptAddress);

@@ -21,13 +21,16 @@ function showAbout(about) {
   find('phones-button').hidden = !about.phones;
   setText(find('phones-address'), about.phones || '');
   keepNames(about);
+  keepListing(about);
   loadGuides(about.guide);
   showTabs(about);
+  showListing(); // a stream that was lost begins anew, with the tab that is shown
 }
 
 // Makes the tabs, those of instruments first. Instruments may come after what the session is about.
 function showTabs(about) {
-  const all = Object.keys(TABS).filter((tab) => find(`${tab}-panel`) && (tab !== 'tables' || about.watch) && (tab !== 'why' || known(ALARMS).length));
+  const isOffered = { tables: () => about.watch, why: () => known(ALARMS).length, source: listing.isOffered };
+  const all = Object.keys(TABS).filter((tab) => find(`${tab}-panel`) && (!isOffered[tab] || isOffered[tab]()));
   const names = [...all.filter((tab) => tab.startsWith('instrument')), ...all.filter((tab) => !tab.startsWith('instrument'))];
   const shownNow = [...find('tabs').children].map((tab) => tab.id.replace(/-tab$/, ''));
   if (names.join() !== shownNow.join()) buildTabs(names);
@@ -90,6 +93,7 @@ function showNews(parts) {
   for (const [part, show] of Object.entries(SHOWS)) if (part in parts) show(parts[part]);
   followGuide();
   followWhy();
+  followListing();
 }
 
 function showReached(is) {
@@ -176,6 +180,7 @@ function start() {
   buildFace();
   buildInspector();
   buildWhy();
+  buildListing();
   find('play').addEventListener('click', playOrPause);
   find('step').addEventListener('click', step);
   find('undo').addEventListener('click', undo);

@@ -72,7 +72,7 @@ async function seekFirst(places) {
 // Goes back to the last time that a breakpoint would have been hit.
 async function backTo(text) {
   const found = await seek([text]);
-  return found !== null && ask('go', { cycle: found.cycle });
+  return found !== null && goExactly(found.cycle);
 }
 
 // Explains the alarm for which PROG is lit; others may have come until the user has clicked.
