@@ -177,12 +177,12 @@ fn summed_rope(
     let Ok(lines) = word_lines(alloc, source.text()) else {
         return Err("memory");
     };
-    let Ok(used) = used_file(alloc, form, bytes.as_slice(), lines.as_slice()) else {
-        return Err("memory");
-    };
     if bytes.len() % 2 == 1 {
         return Err("memory");
     }
+    let Ok(used) = used_file(alloc, form, bytes.as_slice(), lines.as_slice()) else {
+        return Err("memory");
+    };
     match with_sums(alloc, form, bytes.as_slice(), used.as_slice()) {
         Ok(summed) => Ok((summed.file, summed.full)),
         Err(SumsFault::Memory) => Err("memory"),

@@ -1,8 +1,8 @@
 -- The sums of a rope's banks: behind the last word of a bank TC SELF twice, and a check word.
-use Rattle.std.specs.Prelude.{ℕ, zero, suc, ◌+◌, ◌*◌, Bool, true, false, not, ◌&&◌, ◌||◌, nat_lt, List, [], ◌∷◌, ◌++◌}
+use Rattle.std.specs.Prelude.{ℕ, zero, suc, ◌+◌, ◌*◌, Bool, true, false, not, ◌&&◌, ◌||◌, nat_lt, List, [], ◌∷◌, ◌++◌, get_or}
 use Rattle.std.specs.Prelude.{Option, Some, None, is_some, if◌then◌else◌}
 use Rattle.agc_word.specs.Number.{Number, number_from_pattern}
-use Rattle.agc_store.specs.Places.{fixed_bank_size, fixed_banks}
+use Rattle.agc_store.specs.Places.{fixed_bank_size, fixed_banks, fixed_words}
 use Rattle.agc_store.specs.declared.rope_file.RopeForm.{RopeForm}
 use Rattle.agc_listing.specs.List.{listed_address}
 use Rattle.agc_listing.specs.declared.line.PlacedWord.{PlacedWord}
@@ -26,6 +26,26 @@ sum_start rope bank = start_behind (sum_of_bank rope bank)
 -- TC, whose code is 0, with its own address
 abbrev pub self_word : ℕ → PlacedWord
 self_word place = record { place = place; word = number_from_pattern 15 (listed_address place) }
+
+-- Whether a line of the source fills a place. `lines` has for each place the number of its line, or 0.
+abbrev pub has_line : List ℕ → ℕ → Bool
+has_line lines place = nat_lt 0 (get_or lines place 0)
+
+abbrev pub used_word : ℕ → PlacedWord
+used_word place = record { place = place; word = number_from_pattern 15 1 }
+
+-- the words of a file with +1 at each place below a bound that a line fills
+abbrev pub with_used : RopeForm → List ℕ → List ℕ → ℕ → List ℕ
+with_used form words lines place = if has_line lines place then with_word form words (used_word place) else words
+
+unfoldable pub used_words : ℕ → RopeForm → List ℕ → List ℕ → List ℕ
+used_words zero form words lines = words
+used_words (suc place) form words lines = with_used form (used_words place form words lines) lines place
+
+-- The file that says where the sums stand: a rope's file with +1 at exactly the places that the source's lines fill, so
+-- that the last of them in each bank is not +0.
+abbrev pub used_file : RopeForm → List ℕ → List ℕ → List ℕ
+used_file form file lines = file_of_words (used_words fixed_words form (file_words file) lines)
 
 -- the words of a file with TC SELF three times in each bank of a rope that has room
 abbrev pub filled_from : RopeForm → List ℕ → Option ℕ → List ℕ

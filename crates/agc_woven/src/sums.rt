@@ -12,6 +12,7 @@ ghost use Rattle.agc_woven.specs.Sums.{
   filled_from,
   full_bank,
   full_banks,
+  has_line,
   is_full,
   is_right,
   right_sum,
@@ -19,6 +20,10 @@ ghost use Rattle.agc_woven.specs.Sums.{
   start_behind,
   sum_start,
   summed_file,
+  used_file,
+  used_word,
+  used_words,
+  with_used,
 };
 
 use agc_check::{
@@ -97,36 +102,65 @@ fn summed_file(
     file_of_words(alloc, summed.as_slice())
 }
 
-/// Returns a rope file whose words are not +0 at the places that have a line of the source. `lines` has for each place
-/// the number of its line, or 0.
+/// Returns a rope file with +1 at exactly the places that lines of the source fill, and with its other words as they are.
+/// `lines` has for each place the number of its line, or 0.
 pub fn used_file(
     alloc: Global,
     form: RopeForm,
     file: &[u8],
     lines: &[usize],
 ) -> Result<Vec<u8>, AllocError>
-    ensures { IfOk result (λ used. length used.items % 2 ≡ 0) }
+    requires { length file.now % 2 ≡ 0 }
+    ensures file { IfOk result (λ used. used.items ≡ used_file form file.now lines.now) }
+    ensures even { IfOk result (λ used. length used.items % 2 ≡ 0) }
 {
-    let mut words = file_words(alloc, file)?;
-    for place in 0..FIXED_WORDS as usize {
-        if has_line(lines, place) {
-            put_word(
-                &mut words,
-                form,
-                &PlacedWord {
-                    place,
-                    word: Narrow::with_bits(1),
-                },
-            )?;
-        }
-    }
-    file_of_words(alloc, words.as_slice())
+    let words = file_words(alloc, file)?;
+    let used = used_words(form, words, lines)?;
+    file_of_words(alloc, used.as_slice())
 }
 
-fn has_line(lines: &[usize], place: usize) -> bool {
+/// Puts +1 at each place that a line fills.
+#[tactic(auto, using(crate::proofs::Banks::used_none, crate::proofs::Banks::used_more))]
+fn used_words(form: RopeForm, words: Vec<u16>, lines: &[usize]) -> Result<Vec<u16>, AllocError>
+    ensures { IfOk result (λ used. used.items ≡ used_words fixed_words form words.items lines.now) }
+{
+    let mut used = words;
+    for place in 0..FIXED_WORDS as usize {
+        put_used(&mut used, form, lines, place)?;
+    }
+    Ok(used)
+}
+
+fn put_used(
+    words: &mut Vec<u16>,
+    form: RopeForm,
+    lines: &[usize],
+    place: usize,
+) -> Result<(), AllocError>
+    requires { place < fixed_words }
+    ensures { OnOk result (words.new.items ≡ with_used form words.old.items lines.now place) }
+{
+    if has_line(lines, place) {
+        put_word(words, form, &used_word(place))?;
+    }
+    Ok(())
+}
+
+fn has_line(lines: &[usize], place: usize) -> bool
+    ensures { result ≡ has_line lines.now place }
+{
     match lines.get(place) {
-        Some(number) => *number > 0,
+        Some(number) => 0 < *number,
         None => false,
+    }
+}
+
+fn used_word(place: usize) -> PlacedWord
+    ensures { result ≡ used_word place }
+{
+    PlacedWord {
+        place,
+        word: Narrow::with_bits(1),
     }
 }
 
