@@ -8,6 +8,7 @@ import re
 import subprocess
 from pathlib import Path
 
+from followed import try_followed
 from judge import STUDY, TOP, finish, judge, scratch_folder
 
 HERE = Path(__file__).parent
@@ -211,6 +212,7 @@ def try_interpretive(scratch):
     spoken = [line.split(" ", 2)[2] for line in SPOKEN.splitlines()]
     page.write_text("        BANK    04\n" + "".join(f"{' ' * (24 if word[0].isdigit() else 16)}{word}\n" for word in spoken))
     judge("what it prints is a source of these words", (0, rope.read_bytes(), ""), run("weave", page))
+    try_followed(scratch)
 
 
 def main():

@@ -1,4 +1,5 @@
-//! Lists the words that `--interpretive` names as code of the interpretive language.
+//! Lists words as code of the interpretive language: those that `--interpretive` names, or those behind the calls that
+//! `--follow` names.
 use crate::fault::AnalysisFault;
 use crate::rope_bytes::read_banks;
 use agc_check::damaged_store;
@@ -7,8 +8,8 @@ use agc_listing::{Location, RangeFault};
 use agc_load::LoadFault;
 use agc_store::Store;
 use agc_study_args::{ListArgs, RopeRead, read_any_rope};
-use agc_symbols::{SymbolTable, resolve_range};
-use agc_woven::interpretive_lines;
+use agc_symbols::{SymbolTable, resolve, resolve_range};
+use agc_woven::{followed_lines, interpretive_lines};
 use std::alloc::{AllocError, Global};
 use std::io::Read;
 
@@ -19,8 +20,54 @@ pub(crate) struct Words {
     last: usize,
 }
 
+/// What is printed as interpretive code.
+#[derive(Drop)]
+pub(crate) enum Spoken {
+    Nothing,
+    /// The words that `--interpretive` names.
+    Words(Vec<Words>),
+    /// The code behind each TC to an address, which `--follow` names.
+    Called(u16),
+}
+
+/// Resolves `--follow` and `--interpretive`. A value that names none of what it should is a command-line error.
+pub(crate) fn spoken_by(
+    alloc: Global,
+    names: &Option<SymbolTable>,
+    args: &ListArgs,
+) -> Result<Spoken, ArgsFault> {
+    if let Some(text) = &args.follow {
+        return Ok(Spoken::Called(interpreter_named(alloc, names, text.as_str())?));
+    }
+    let words = words_named(alloc, names, args.interpretive.as_slice())?;
+    if words.is_empty() {
+        Ok(Spoken::Nothing)
+    } else {
+        Ok(Spoken::Words(words))
+    }
+}
+
+/// Parses the value of `--follow`: a place that a word TC names.
+fn interpreter_named(
+    alloc: Global,
+    names: &Option<SymbolTable>,
+    text: &str,
+) -> Result<u16, ArgsFault> {
+    let why = match resolve(names, text.as_bytes()) {
+        Some(Location::Fixed(place)) => match u16::try_from(place) {
+            Ok(address) if 0o4000 <= address && address < 0o10000 => return Ok(address),
+            _ =>
+                "TC reaches this bank only while it is switched in: name a place from 4000 to 7777",
+        },
+        Some(Location::Erasable(_)) =>
+            "this is in erasable memory; a rope has the words of fixed memory",
+        None => "no such place: octal 4100 or 02,4100; a name needs --names FILE",
+    };
+    Err(mistaken(alloc, "--follow <PLACE>", text, why))
+}
+
 /// Parses the values of `--interpretive`. A value that names no words of a rope is a command-line error.
-pub(crate) fn words_named(
+fn words_named(
     alloc: Global,
     names: &Option<SymbolTable>,
     texts: &[String],
@@ -43,7 +90,7 @@ pub(crate) fn words_named(
             Err(_) =>
                 "no such place: octal 4100, 05,2071 or 05,2071-05,2107; a name needs --names FILE",
         };
-        return Err(mistaken(alloc, text.as_str(), why));
+        return Err(mistaken(alloc, "--interpretive <PLACES>", text.as_str(), why));
     }
     Ok(several)
 }
@@ -53,29 +100,34 @@ fn push_words(several: &mut Vec<Words>, words: Words) -> Result<(), AllocError> 
     Ok(())
 }
 
-fn mistaken(alloc: Global, text: &str, why: &str) -> ArgsFault {
-    match mistaken_text(alloc, text, why) {
+fn mistaken(alloc: Global, option: &str, text: &str, why: &str) -> ArgsFault {
+    match mistaken_text(alloc, option, text, why) {
         Ok(text) => ArgsFault::Command(text),
         Err(AllocError) => ArgsFault::Memory,
     }
 }
 
-fn mistaken_text(alloc: Global, text: &str, why: &str) -> Result<String, AllocError> {
+fn mistaken_text(alloc: Global, option: &str, text: &str, why: &str) -> Result<String, AllocError> {
     format!(in alloc;
-        "error: invalid value '{text}' for '--interpretive <PLACES>': {why}\n\nFor more information, try '--help'.\n"
+        "error: invalid value '{text}' for '{option}': {why}\n\nFor more information, try '--help'.\n"
     )
 }
 
-/// Returns the lines of these words of a rope.
+/// Returns the lines of this code in a rope.
 pub(crate) fn interpretive_list<R: Read>(
     alloc: Global,
     args: &ListArgs,
     names: &Option<SymbolTable>,
-    words: &[Words],
+    spoken: &Spoken,
     rope: &mut R,
 ) -> Result<String, AnalysisFault> {
     let store = store_of(alloc, args, rope)?;
-    match lines_of(alloc, &store, names, words) {
+    let lines = match spoken {
+        Spoken::Nothing => Ok(String::new(alloc)),
+        Spoken::Words(words) => lines_of(alloc, &store, names, words.as_slice()),
+        Spoken::Called(address) => followed_lines(alloc, &store, names, *address),
+    };
+    match lines {
         Ok(text) => Ok(text),
         Err(_) => Err(AnalysisFault::Refused(LoadFault::Memory)),
     }

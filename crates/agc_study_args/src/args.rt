@@ -68,6 +68,8 @@ pub struct ListArgs {
     pub first_bank: Option<u8>,
     /// The values of `--interpretive`: words to print as interpretive code.
     pub interpretive: Vec<String>,
+    /// The value of `--follow`: the interpreter's place, behind whose calls interpretive code stands.
+    pub follow: Option<String>,
 }
 
 /// Arguments of `weave`: a text file to assemble.

@@ -62,6 +62,11 @@ impl<'a> Subcommands<'a> {
                 "PLACES",
                 "Print only these words, as interpretive code: 05,2071-05,2107, or names; repeatable",
             )
+            .option(
+                "follow",
+                "PLACE",
+                "Print only the interpretive code behind each TC to this place, 4000 to 7777, or to a name",
+            )
             .first_bank_option()
             .ignore_parity_option();
         self.with(

@@ -86,12 +86,8 @@ fn args_of(alloc: Global, name: &str, given: &ArgMatches<'_>) -> Result<Args, Ar
 
 fn list_args(alloc: Global, given: &ArgMatches<'_>) -> Result<Args, ArgsFault> {
     let interpretive = texts_of(alloc, given, "interpretive")?;
-    if !interpretive.is_empty() && has_other_style(given) {
-        return Err(mistake(
-            alloc,
-            "error: --interpretive prints its words alone, without --bank, --all, --source and --style\n",
-        ));
-    }
+    let follow = text_of(alloc, given, "follow")?;
+    check_words_alone(alloc, given, !interpretive.is_empty(), follow.is_some())?;
     Ok(Args::List(ListArgs {
         rope: path_of(alloc, given, "rope")?,
         form: form_of(given),
@@ -102,7 +98,30 @@ fn list_args(alloc: Global, given: &ArgMatches<'_>) -> Result<Args, ArgsFault> {
         shows_zeros: given.get_flag("all"),
         first_bank: first_bank_of(alloc, given)?,
         interpretive,
+        follow,
     }))
+}
+
+/// Refuses an option that prints its words alone beside one that prints other words or another style.
+fn check_words_alone(
+    alloc: Global,
+    given: &ArgMatches<'_>,
+    is_interpretive: bool,
+    is_followed: bool,
+) -> Result<(), ArgsFault> {
+    if is_followed && (is_interpretive || has_other_style(given)) {
+        return Err(mistake(
+            alloc,
+            "error: --follow prints its words alone, without --interpretive, --bank, --all, --source and --style\n",
+        ));
+    }
+    if is_interpretive && has_other_style(given) {
+        return Err(mistake(
+            alloc,
+            "error: --interpretive prints its words alone, without --bank, --all, --source and --style\n",
+        ));
+    }
+    Ok(())
 }
 
 /// Returns whether other words, or another style, are asked for.

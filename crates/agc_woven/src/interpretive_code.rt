@@ -17,11 +17,15 @@ const UNREAD: &str = "no interpretive word";
 
 /// A reader of consecutive words.
 #[derive(Drop)]
-struct Reader<'a> {
+pub(crate) struct Reader<'a> {
     store: &'a Store,
     names: &'a Option<SymbolTable>,
     /// The operands that are due.
     due: Pending,
+    /// Whether EXIT was among the last operations.
+    has_exit: bool,
+    /// Whether no rule of the language reads the last word.
+    is_unread: bool,
 }
 
 /// An operation with its name: of a general shift or a switch its operand decides it.
@@ -42,25 +46,60 @@ pub fn interpretive_lines(
     last: usize,
 ) -> Result<String, AllocError> {
     let mut text = String::new(alloc);
-    let mut reader = Reader {
-        store,
-        names,
-        due: Pending::NOTHING,
-    };
+    let mut reader = Reader::new(store, names);
     for place in first..FIXED_WORDS as usize {
         if place > last {
             break;
         }
-        push_rope_place(&mut text, place)?;
-        write!(text, " {} ", store.fixed_at(place))?;
-        reader.push_line(&mut text, place)?;
+        reader.push_word(&mut text, place)?;
         text.push_str("\n")?;
     }
     Ok(text)
 }
 
-impl Reader<'_> {
+impl<'a> Reader<'a> {
     ghost use Rattle.std.specs.Prelude.{◌<◌};
+
+    /// Returns a reader before a pair of operations or a store.
+    pub(crate) fn new(store: &'a Store, names: &'a Option<SymbolTable>) -> Reader<'a> {
+        Reader {
+            store,
+            names,
+            due: Pending::NOTHING,
+            has_exit: false,
+            is_unread: false,
+        }
+    }
+
+    /// Returns whether no rule of the language reads the last word.
+    pub(crate) fn is_unread(&self) -> bool {
+        self.is_unread
+    }
+
+    /// Returns whether EXIT was among the last operations.
+    pub(crate) fn has_exit(&self) -> bool {
+        self.has_exit
+    }
+
+    /// Returns whether the code ends before the word at a place: EXIT was among the last operations, and the word is none of
+    /// their operands.
+    pub(crate) fn has_ended(&self, place: usize) -> bool {
+        self.has_exit
+            && match self.due.first {
+                None => true,
+                Some(Due::Popped) => self.bits_at(place) >= 0o40000,
+                Some(_) => false,
+            }
+    }
+
+    /// Appends the place of a word, the word, and what it is.
+    pub(crate) fn push_word(&mut self, text: &mut String, place: usize) -> Result<(), AllocError> {
+        let bits = self.bits_at(place);
+        push_rope_place(text, place)?;
+        write!(text, " {bits:05o} ")?;
+        self.is_unread = false;
+        self.push_line(text, place, bits)
+    }
 
     /// Returns the bits of the word at a place; 0 past fixed memory.
     fn bits_at(&self, place: usize) -> u16
@@ -74,8 +113,9 @@ impl Reader<'_> {
     }
 
     /// Appends what the word at a place is.
-    fn push_line(&mut self, text: &mut String, place: usize) -> Result<(), AllocError> {
-        let bits = self.bits_at(place);
+    fn push_line(&mut self, text: &mut String, place: usize, bits: u16) -> Result<(), AllocError>
+        requires { bits < 0o100000 }
+    {
         match self.due.first {
             Some(Due::Popped) if bits >= 0o40000 => self.push_code(text, place, bits),
             Some(due) => {
@@ -112,6 +152,7 @@ impl Reader<'_> {
                 }
             }
         };
+        self.has_exit = is_exit(left) || right.is_some_and(is_exit);
         push_name(text, left)?;
         match right {
             Some(right) => {
@@ -128,6 +169,11 @@ impl Reader<'_> {
 
     fn push_unread(&mut self, text: &mut String) -> Result<(), AllocError> {
         self.due = Pending::NOTHING;
+        self.push_unread_operand(text)
+    }
+
+    fn push_unread_operand(&mut self, text: &mut String) -> Result<(), AllocError> {
+        self.is_unread = true;
         text.push_str(UNREAD)
     }
 
@@ -175,7 +221,7 @@ impl Reader<'_> {
 
     /// Appends an operand.
     fn push_operand(
-        &self,
+        &mut self,
         text: &mut String,
         due: Due,
         place: usize,
@@ -191,7 +237,7 @@ impl Reader<'_> {
                     push_count(text, count)?;
                     push_index(text, index)
                 }
-                None => text.push_str(UNREAD),
+                None => self.push_unread_operand(text),
             },
             Due::Constant if bits >= 0o40000 => write!(text, "-{:o}", 0o77777 - bits),
             Due::Constant => write!(text, "{bits:o}"),
@@ -203,7 +249,7 @@ impl Reader<'_> {
     }
 
     fn push_address(
-        &self,
+        &mut self,
         text: &mut String,
         is_indexed: bool,
         place: usize,
@@ -217,7 +263,7 @@ impl Reader<'_> {
                 self.push_place(text, place)?;
                 push_index(text, index)
             }
-            None => text.push_str(UNREAD),
+            None => self.push_unread_operand(text),
         }
     }
 
@@ -237,6 +283,10 @@ impl Reader<'_> {
             Place::Fixed(fixed) => push_rope_place(text, usize::from(fixed)),
         }
     }
+}
+
+fn is_exit(named: Named) -> bool {
+    named.name == "EXIT"
 }
 
 /// Returns how many operands are due.

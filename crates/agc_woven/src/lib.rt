@@ -2,10 +2,12 @@
 //! interpretive code.
 #![tactic(auto)]
 
+mod followed_code;
 mod interpretive_code;
 mod source_listing;
 mod sums;
 
+pub use followed_code::followed_lines;
 pub use interpretive_code::interpretive_lines;
 pub use source_listing::{ListingFault, listing_of};
 pub use sums::{SummedRope, SumsFault, used_file, with_sums};

@@ -282,6 +282,7 @@ fn listed(rt: &impl AllocGlobal, rope: &[u8], style: ListStyle) -> Result<Vec<u8
         shows_zeros: false,
         first_bank: None,
         interpretive: Vec::new(rt.alloc()),
+        follow: None,
     };
     let mut rope = rope;
     let form = LineForm::new(rt.alloc(), None, None);
