@@ -4,6 +4,7 @@ What is wanted at the end is what the commands of examples/descent/README.md giv
 of the script that the page has then.
 """
 import json
+import os
 import re
 import subprocess
 import sys
@@ -16,10 +17,11 @@ from site_of import example, wait
 from source import HAS_ASSEMBLER, press_in_strip, started, woven
 
 NAMES = example('descent', 'names')
-LONGEST = 600  # seconds that an exercise may take
+LONGEST = 300  # seconds that a step may take
 NEAR = 0.15  # m/s: the keys come at other times than those of craft.py
 PRIO10 = re.compile(r'PRIO10(?=\s+TC\s+NOVAC\s+2CADR\s+RANGEJOB)')
 END = 'That is all.'
+PRIORITY = "document.querySelector('#watched [data-place=PRIORITY] td').textContent"
 LOOK = """((before) => {
     const what = find('strip-what').textContent;
     if (!guiding.guide || what === 'Guided steps:') return before; // the next machine is being opened
@@ -36,17 +38,20 @@ def walk(page, guide, hands):
     steps = ['']
     press_in_strip(page, guide)
 
-    def is_done():
-        """Looks at the strip; returns whether the guide is at its end."""
+    def is_next():
+        """Looks at the strip; returns whether it says another step than at the last look."""
         what = page.value(f'{LOOK}({json.dumps(steps[-1])})')
+        is_new = what != steps[-1]
         hand = next((hand for begin, hand in hands.items() if what.startswith(begin)), None)
         if hand:
-            hand(what != steps[-1])
-        if what != steps[-1]:
+            hand(is_new)
+        if is_new:
             steps.append(what)
-        return what == END
+        return is_new
 
-    judge(f'{guide}: it comes to its end', True, wait(is_done, LONGEST))
+    while steps[-1] != END and wait(is_next, LONGEST):
+        continue
+    judge(f'{guide}: it comes to its end', END, steps[-1])
     wanted = page.value(f'guiding.guides.find(({{ title }}) => title === {json.dumps(guide)}).steps.map((each) => each.what)')
     judge(f'{guide}: each step was shown', wanted, steps[1:-1])
     judge(f'{guide}: its hands were needed', [], [begin for begin in hands if not any(each.startswith(begin) for each in steps)])
@@ -148,6 +153,42 @@ def try_alarm():
     page.close()
 
 
+def try_bug():
+    """The wrong number: what is seen at its alarm, the order at which the address is lost, and the landing once it is right."""
+    page = opened('puzzle')
+    rope = os.path.join(web.FOLDER, 'puzzle.rope')
+    subprocess.run([example('descent', 'puzzle'), rope], check=True)
+    with open(rope, 'rb') as file:
+        judge('the rope is that of examples/descent/puzzle', file.read(), bytes(page.value('[...session.files.rope]')))
+
+    def at_alarm(is_new):
+        """Compares what the page shows with what agc-console has at the first alarm of the same script."""
+        if not is_new:
+            return
+        with Console(rope, file_of('script', page.site.script().encode()), names=NAMES, program=[CONSOLE]) as console:
+            console.until('BAILOUT', within=3_000_000)
+            areas = {place: console.cell(place) for place in ('VAC1USE', 'VAC5USE')}
+            free = [line for line in console.tables('0,200,10,0,340,0,350') if line.startswith('SET ') and not line.endswith('FREE')]
+        judge('at the alarm both areas are in use, and no job is there', ({'VAC1USE': 0, 'VAC5USE': 0}, []), (areas, free))
+        shows = "[...document.querySelectorAll('#watched tr')].map((each) => [each.dataset.place, each.children[1].textContent])"
+        wanted = [[place, f'{word:05o}'] for place, word in areas.items()]
+        judge('the page shows them', wanted, page.see(shows, wanted, 60))
+        judge('the tab Alarm', 'None of the 8 core sets is in use.', page.value("find('why-used').textContent"))
+
+    def at_mask(is_new):
+        """A has lost the address that PRIORITY has."""
+        if is_new:
+            judge('A after MASK, and PRIORITY', (0o120, '20520'), (page.value('shown.machine.registers.a'), page.see(PRIORITY, '20520', 60)))
+
+    def landed(is_new):
+        if is_new:
+            judge_landing('without the bug', page, example('descent', 'rope'), True)
+            judge('no lamp of an alarm', False, page.value("isLit('PROG')"))
+
+    walk(page, 'Exercise: find the bug', {'Both are 0': at_alarm, 'Look at Orders': at_mask, 'It has landed': landed})
+    page.close()
+
+
 def try_engine():
     """The engine's end: the order that shuts it down, and the interrupt that led there, are those of agc-study's trace."""
     page = started()
@@ -187,4 +228,4 @@ def web_line(cycle, line):
     return line.startswith(f'{int(cycle):,}')
 
 
-TRIES = (try_engine, *((try_throttle, try_alarm) if HAS_ASSEMBLER else ()))
+TRIES = (try_engine, *((try_throttle, try_alarm, try_bug) if HAS_ASSEMBLER else ()))

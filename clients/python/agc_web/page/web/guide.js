@@ -101,6 +101,8 @@ const CLICKS = {
   press: (text) => (text ? { run: () => pressControl(text) } : 'name a button of an instrument'),
   tab: (text) => (text ? { run: () => chooseTab(text) } : 'name a tab'),
   break: (text) => (text ? { run: () => ask('break', { place: text }) } : 'name a place'),
+  back: (text) => (text ? { run: () => backTo(text) } : 'name a place'),
+  watch: (text) => (text ? { run: () => addWatch(text) } : 'name a place'),
 };
 
 // What moves a step on: each returns a function of what is shown, or a fault as a text.

@@ -69,7 +69,7 @@ async function seekFirst(places) {
   return first;
 }
 
-// Goes back to the last time that a breakpoint would have been hit.
+// Goes back to the last time that a breakpoint would have been hit. Instruments go back to the tick before; from there it goes on.
 async function backTo(text) {
   const found = await seek([text]);
   return found !== null && goExactly(found.cycle);
