@@ -160,7 +160,8 @@ def try_faults():
     write(page, BLINK)
     words = 'No fault: 17 words, not counting those that are 0.'
     judge('18 words, of which one is 0', words, page.see(said, words, 30))
-    page.value("openExample('verbs').then(() => showTab('source'))")
+    page.site.open()  # a rope without a source
+    page.value("showTab('source')")
     write(page, FAULTS[0][0])
     judge('the machine has no woven program', '1 fault.', page.see(said, '1 fault.', 30))
     page.close()

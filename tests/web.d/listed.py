@@ -169,6 +169,7 @@ def click_line(window, line):
 def try_pointed(site, window, lines, keyin):
     """Pointing at a name shows its place, and what the cell has now."""
     line = next(i for i, (_, _, text) in enumerate(lines) if re.search(r'\sTS\s+KEY\b', text))
+    window.resize(1280, 6000)  # all lines are in view, so that none moves away from the pointer
     window.value(f'showLine({line}); undefined')
     box = window.value(f"""(() => {{
         const box = document.querySelector('[data-line="{line}"] [data-name="KEY"]').getBoundingClientRect();
@@ -183,6 +184,7 @@ def try_pointed(site, window, lines, keyin):
         site.do('step')
     judge('it has another word', True, said() != before)
     judge('and the new one is shown', said(), see(window, NAMES, said()))
+    window.resize(1280, 800)
     window.value(f'showLine({keyin}); undefined')
     name = f"document.querySelector('[data-line=\"{keyin}\"] [data-name=\"KEYIN\"]')"
     window.value(f"{name}.dispatchEvent(new PointerEvent('pointerover', {{ bubbles: true }})); undefined")
