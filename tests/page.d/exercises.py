@@ -178,6 +178,7 @@ def try_bug():
     def at_mask(is_new):
         """A has lost the address that PRIORITY has."""
         if is_new:
+            page.value("showTab('watch')")
             judge('A after MASK, and PRIORITY', (0o120, '20520'), (page.value('shown.machine.registers.a'), page.see(PRIORITY, '20520', 60)))
 
     def landed(is_new):
