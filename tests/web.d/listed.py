@@ -147,7 +147,8 @@ def try_lit():
     click_line(window, 0)
     judge('a comment has none', [], window.value('shown.breakpoints'))
     site.do('break', place='KEYIN+2')
-    judge('one by name: the names are those of the listing', [places['02,4102']], see(window, "[...document.querySelectorAll('.listed.stops')].map((row) => Number(row.dataset.line))", [places['02,4102']]))
+    stops = "[...document.querySelectorAll('.listed.stops')].map((row) => Number(row.dataset.line))"
+    judge('one by name: the names are those of the listing', [places['02,4102']], see(window, stops, [places['02,4102']]))
     click_line(window, places['02,4102'])
     judge('and a click removes it', [], see(window, 'shown.breakpoints', []))
     try_pointed(site, window, lines, keyin)
