@@ -22,29 +22,32 @@ NEAR = 0.15  # m/s: the keys come at other times than those of craft.py
 PRIO10 = re.compile(r'PRIO10(?=\s+TC\s+NOVAC\s+2CADR\s+RANGEJOB)')
 END = 'That is all.'
 PRIORITY = "document.querySelector('#watched [data-place=PRIORITY] td').textContent"
-LOOK = """((before) => {
+LOOK = """((before, waits) => {
     const what = find('strip-what').textContent;
     if (!guiding.guide || what === 'Guided steps:') return before; // the next machine is being opened
     const button = [...document.querySelectorAll('#strip-buttons button')].find((each) => each.className === 'main' || each.textContent === 'Next');
-    if (what !== before) button?.click();
+    if (what !== before && !waits.some((begin) => what.startsWith(begin))) button?.click();
     return what;
 })"""
-"""Clicks what a new step of the strip offers, and returns what the step says."""
+"""Clicks what a new step of the strip offers, unless its hand comes first, and returns what the step says."""
+CLICK = "document.querySelector('#strip-buttons .main').click()"
 
 
-def walk(page, guide, hands):
+def walk(page, guide, hands, first=()):
     """Follows a guide to its end. `hands` has what a user does at a step, by the step's beginning: a function that gets whether the
-    step is new, because it is called at each look."""
+    step is new, because it is called at each look. What the steps of `first` offer is clicked after their hands."""
     steps = ['']
     press_in_strip(page, guide)
 
     def is_next():
         """Looks at the strip; returns whether it says another step than at the last look."""
-        what = page.value(f'{LOOK}({json.dumps(steps[-1])})')
+        what = page.value(f'{LOOK}({json.dumps(steps[-1])}, {json.dumps(first)})')
         is_new = what != steps[-1]
         hand = next((hand for begin, hand in hands.items() if what.startswith(begin)), None)
         if hand:
             hand(is_new)
+        if is_new and what.startswith(tuple(first)):
+            page.value(CLICK)
         if is_new:
             steps.append(what)
         return is_new
@@ -186,7 +189,7 @@ def try_bug():
             judge_landing('without the bug', page, example('descent', 'rope'), True)
             judge('no lamp of an alarm', False, page.value("isLit('PROG')"))
 
-    walk(page, 'Exercise: find the bug', {'Both are 0': at_alarm, 'Look at Orders': at_mask, 'It has landed': landed})
+    walk(page, 'Exercise: find the bug', {'Both are 0': at_alarm, 'Look at Orders': at_mask, 'It has landed': landed}, ['Both are 0'])
     page.close()
 
 
@@ -212,13 +215,15 @@ def try_engine():
         if not is_new:
             page.value("now.playing || shown.machine.next.includes('ENGOFF') || ask('play'), undefined")
 
+    def lists(cycle, name):
+        return wait(lambda: any(web_line(cycle, each) and name in each for each in page.texts('#history li')), 60)
+
     def seen(is_new):
         if is_new:
-            orders = page.texts('#history li')
             judge('the order', ['ENGOFF', '+2'], trace[0][2:4])
-            check('the page has it at its cycle', any(web_line(trace[0][0], each) and 'ENGOFF +2' in each for each in orders))
+            check('the page has it at its cycle', lists(trace[0][0], 'ENGOFF +2'))
             judge('the interrupt', 'T5RUPT', trace[1][3])
-            check('the page has that at its cycle', any(web_line(trace[1][0], each) and 'T5RUPT' in each for each in orders))
+            check('the page has that at its cycle', lists(trace[1][0], 'T5RUPT'))
 
     walk(page, "Exercise: the engine's end", {'Drag the slider': on_ground, 'Add "write': played, 'It was T5RUPT': seen})
     page.close()
