@@ -150,3 +150,6 @@ signal.signal(signal.SIGTERM, end_by_signal)
 if signal.getsignal(signal.SIGINT) == signal.SIG_IGN:
     # A script's command in the background ignores Control-C, and so would the programs that the judge starts and ends by it.
     signal.signal(signal.SIGINT, signal.default_int_handler)
+if signal.getsignal(signal.SIGHUP) == signal.SIG_IGN:
+    # So does one that nohup has started with the end of its terminal.
+    signal.signal(signal.SIGHUP, signal.SIG_DFL)
