@@ -11,12 +11,11 @@ import subprocess
 
 from agc import Console, Refused
 from craft import (
-    APPROACH, ASCENT_FUEL, BEFORE_HIGH_GATE, BRAKING, DRY, HIGH_GATE, LOADED, abort_has_ended, craft_of, fault_at, finite, fly, key_at,
-    refusal,
+    ASCENT_FUEL, abort_has_ended, begins, craft_of, fault_at, finite, fly, key_at, refusal,
 )
 
 INPUTS = [
-    "seed", "height", "way", "forward", "down", "braking", "fuel", "ascent_fuel", "loaded_height", "loaded_mass", "faults", "keys",
+    "seed", "height", "way", "forward", "down", "braking", "orbit", "fuel", "ascent_fuel", "loaded_height", "loaded_mass", "faults", "keys",
     "restarts",
 ]
 """The columns of a table of flights."""
@@ -85,7 +84,7 @@ def restarts_of(text):
 
 READERS = {
     **{name: number for name in ("height", "way", "forward", "down", "fuel", "ascent_fuel", "loaded_height", "loaded_mass")},
-    "seed": whole, "braking": yes_or_no, "faults": listed(fault_at), "keys": listed(key_at), "restarts": restarts_of,
+    "seed": whole, "braking": yes_or_no, "orbit": yes_or_no, "faults": listed(fault_at), "keys": listed(key_at), "restarts": restarts_of,
 }
 
 
@@ -99,8 +98,8 @@ def flight_of(row):
                 setattr(flight, name, READERS[name](text))
         except ValueError as error:
             raise ValueError(f"{name}: {error}") from None
-    defaults = {"seed": 1, "fuel": LOADED - DRY, "ascent_fuel": ASCENT_FUEL, "faults": [], "keys": []}
-    for name, value in {**(BEFORE_HIGH_GATE if flight.braking else HIGH_GATE), **defaults}.items():
+    defaults = {"seed": 1, "ascent_fuel": ASCENT_FUEL, "faults": [], "keys": []}
+    for name, value in {**begins(flight)[0], **defaults}.items():
         if getattr(flight, name) is None:
             setattr(flight, name, value)
     wrong = refusal(flight)
@@ -187,7 +186,7 @@ def end_of(agc, craft, refused):
 def flown(flight, rope, names, program, script):
     """Flies, and returns the results as texts, and the script that repeats the flight. The files are paths."""
     craft = craft_of(flight)
-    keys = {**(BRAKING if flight.braking else APPROACH), **dict(flight.keys)}
+    keys = {**begins(flight)[2], **dict(flight.keys)}
     track, refused, seconds, at = Track(craft), None, 0.0, ("", "")
     with Witness(flight.restarts, rope, script, names=names, program=program) as agc:
         try:

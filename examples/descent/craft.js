@@ -28,7 +28,7 @@ const GRAVITY = 1.62; // m/s/s, on the ground
 const MOON = 1737400; // m, from its middle to the site
 const EXHAUST = 3050; // m/s
 const PULSE = 0.0585; // m/s, of an accelerometer,
-const COARSE = 0.234; // and in its coarse range, for a script has no room for more pulses
+const COARSE = 0.468; // and in its coarse range, for a script has no room for more pulses
 const FASTEST = { [PIPAX]: 32, [PIPAZ]: 32, [CDUY]: 64 }; // pulses that an instrument sends in a hundredth of a second at most
 const RADIAN = PI / 180;
 const DEGREE = 32768 / 360; // pulses of CDUY
@@ -36,13 +36,15 @@ const TURNING = 4 * RADIAN; // what a jet brings each second, in radians a secon
 const LAG = 0.2; // seconds, of the engine
 const FULL = 45000; // N
 const DRY = 6500; // kg, without fuel
-const LOADED = 8500; // kg, with all of it
+const LOADED = 8500; // kg, with all of it near the site,
+const LOADED_IN_ORBIT = 14700; // and in orbit
 const ASCENT_DRY = 2350; // kg, of the ascent stage without fuel
 const ASCENT_FUEL = 2350; // kg
 const ASCENT_THRUST = 15600; // N: this engine has no throttle
 const HIGHEST = 4095; // m: the radar sees no ground from above
 const LEG = 0.2; // m: a leg's probe touches the ground so high up
 const LIMITS = [1.5, 0.6, 3]; // of a landing: m/s down, m/s forward or back, degrees
+const IN_ORBIT = { height: 15000, way: 500000, forward: 1692, down: 0, isFar: true }; // where a flight in orbit starts
 
 const ABORT = 'VERB 3 7 ENTR 7 0 ENTR'.split(' '); // what the button for it types
 const WATCHES = 'VERB 1 6 NOUN 6 8 ENTR'.split(' '); // the crew watches the range, which takes time of the computer
@@ -63,19 +65,21 @@ const SWITCHES = {
 
 // Where the craft is and how it moves, and what its instruments have counted.
 export class Craft {
-  constructor(seed = 1, { height = 2300, way = 7500, forward = 150, down = 45, fuel = LOADED - DRY } = {}) {
+  constructor(seed = 1, { height = 2300, way = 7500, forward = 150, down = 45, fuel = null, isFar = false } = {}) {
     const noise = new Noise(seed);
-    Object.assign(this, { seed, noise, height, way, forward, up: -down });
-    this.mass = Math.max(DRY, LOADED * (1 + noise.between(-0.015, 0.015)) - (LOADED - DRY - fuel));
+    Object.assign(this, { seed, noise, isFar, height, way, forward, up: -down });
+    const [loaded, tilt, massError, speedError] = isFar ? [LOADED_IN_ORBIT, -90, 0.005, 0.05] : [LOADED, -43, 0.015, 1];
+    const spent = fuel === null ? 0 : loaded - DRY - fuel;
+    this.mass = Math.max(DRY, loaded * (1 + noise.between(-massError, massError)) - spent);
     this.knownHeight = height + noise.between(-40, 40);
-    this.knownMass = LOADED;
-    this.tilt = (-43 + noise.between(-3, 3)) * RADIAN;
+    this.knownMass = loaded;
+    this.tilt = (tilt + noise.between(-3, 3)) * RADIAN;
     this.turning = noise.between(-0.5, 0.5) * RADIAN;
-    this.knownForward = forward + noise.between(-2, 2);
-    this.knownUp = -down + noise.between(-1, 1);
+    this.knownForward = forward + noise.between(-2 * speedError, 2 * speedError);
+    this.knownUp = -down + noise.between(-speedError, speedError);
     Object.assign(this, { wanted: 0, answered: 0 });
     Object.assign(this, { thrust: 25500, command: 25500, jets: 0, engine: false, flying: false, touched: null, contact: false });
-    Object.assign(this, { dry: DRY, ascentFuel: ASCENT_FUEL, staged: false, pulse: PULSE });
+    Object.assign(this, { dry: DRY, ascentFuel: ASCENT_FUEL, staged: false, pulse: PULSE, rounding: 0 });
     this.seconds = 0;
     this.lost = null; // the second since which the landing radar is lost
     this.counted = { [PIPAX]: 0, [PIPAZ]: 0 };
@@ -98,7 +102,7 @@ export class Craft {
     this.engine = Boolean(lamps & ENGINE_ON);
     this.flying = this.flying || this.engine;
     this.stage(staging);
-    this.coarsen(staging);
+    this.scalePulses(staging);
   }
 
   // Drops the descent stage, if bit 1 says so. The ascent stage has an engine and fuel of its own.
@@ -106,14 +110,16 @@ export class Craft {
     if (word & 1 && !this.staged) Object.assign(this, { staged: true, thrust: 0, dry: ASCENT_DRY, mass: ASCENT_DRY + this.ascentFuel });
   }
 
-  // Gives the accelerometers their coarse range, if bit 2 says so. What is not yet a pulse is kept.
-  coarsen(word) {
-    if (!(word & 2) || this.pulse !== PULSE) return;
-    this.pulse = COARSE;
+  // Gives the accelerometers their coarse range if bit 2 says so, or else the fine one. What is not yet a pulse is kept. Coarse pulses
+  // are rounded, so that no speed is lost on the average.
+  scalePulses(word) {
+    const pulse = word & 2 ? COARSE : PULSE;
+    if (pulse === this.pulse) return;
     for (const counter of [PIPAX, PIPAZ]) {
-      this.counted[counter] -= this.sent[counter] * PULSE;
+      this.counted[counter] -= this.sent[counter] * this.pulse;
       this.sent[counter] = 0;
     }
+    Object.assign(this, { pulse, rounding: word & 2 ? 0.5 : 0 });
   }
 
   fuel() {
@@ -186,7 +192,8 @@ export class Craft {
 
   // Sends the pulses since the last call.
   sendPulses(agc) {
-    const now = [[PIPAX, Math.floor(this.counted[PIPAX] / this.pulse)], [PIPAZ, Math.floor(this.counted[PIPAZ] / this.pulse)], [CDUY, this.angle()]];
+    const whole = (counter) => Math.floor(this.counted[counter] / this.pulse + this.rounding);
+    const now = [[PIPAX, whole(PIPAX)], [PIPAZ, whole(PIPAZ)], [CDUY, this.angle()]];
     for (const [counter, value] of now) {
       const more = Math.max(-FASTEST[counter], Math.min(FASTEST[counter], value - this.sent[counter]));
       this.sent[counter] += more;
@@ -233,11 +240,13 @@ function double(value) {
   return value >= 0 ? words : words.map((word) => word ^ 0o77777);
 }
 
-// Gives the computer its erasable load.
+// Gives the computer its erasable load. Far from the site it is in the units of an orbit, and says so in the cell ORBNAV.
 function load(agc, craft) {
-  const state = [-craft.way, 64 * craft.knownForward, craft.knownHeight, 64 * craft.knownUp, craft.knownMass];
-  state.flatMap(double).forEach((word, offset) => agc.poke(3, offset, word));
+  const state = [-craft.way, 64 * craft.knownForward, craft.knownHeight, 64 * craft.knownUp];
+  const words = [...state.map((value) => (craft.isFar ? value / 32 : value)), craft.knownMass].flatMap(double);
+  words.forEach((word, offset) => agc.poke(3, offset, word));
   agc.poke(0, CDUY, ((craft.angle() % 32768) + 32768) % 32768);
+  if (craft.isFar) agc.poke(3, 0o100, 2);
 }
 
 // Sends the computer what the instruments counted in a step, what the radar measured, and the downlink's interrupt.
@@ -291,14 +300,15 @@ function flightOf(craft) {
 const fixed = (value, digits) => value.toFixed(digits).replace(/^-(0(?:\.0*)?)$/, '$1');
 const signed = (value, digits) => `${fixed(value, digits).startsWith('-') ? '' : '+'}${fixed(value, digits)}`;
 
-// The craft as an instrument. The user presses the keys: V37E, 64E, then PRO.
+// The craft as an instrument. The user presses the keys: V37E, 64E or in orbit 63E, then PRO.
 export class Instrument {
   reads = [JETS, THROTTLE, LAMPS, RADAR, STAGING];
   #machine = null;
   #next = null; // the craft of a flight that begins anew
 
-  constructor({ seed = 1 } = {}) {
-    this.craft = new Craft(Number.isInteger(seed) && seed >= 0 && seed < SEEDS ? seed : 1);
+  constructor({ seed = 1, orbit = false } = {}) {
+    this.start = orbit ? IN_ORBIT : {};
+    this.craft = new Craft(Number.isInteger(seed) && seed >= 0 && seed < SEEDS ? seed : 1, this.start);
     this.ticks = 0;
     this.behind = []; // where the craft was, second by second
     this.switched = null; // the tick at which the rendezvous radar was switched on
@@ -314,7 +324,7 @@ export class Instrument {
   }
 
   options() {
-    return { seed: this.craft.seed };
+    return { seed: this.craft.seed, ...(this.craft.isFar && { orbit: true }) };
   }
 
   // Moves for a hundredth of a second by what the computer commands.
@@ -402,7 +412,7 @@ export class Instrument {
   // Goes back to the beginning, with a craft of the next seed.
   beginAgain() {
     this.seed = (this.seed + 1) % SEEDS;
-    this.#next = new Craft(this.seed);
+    this.#next = new Craft(this.seed, this.start);
     if (this.ticks === 0) this.load(this.save());
     else this.#machine?.goThere(0, true).catch(() => {}); // the session has ended
   }

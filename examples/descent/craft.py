@@ -38,7 +38,7 @@ GRAVITY = 1.62  # m/s/s, on the ground
 MOON = 1737400.0  # m, from its middle to the site
 EXHAUST = 3050.0  # m/s
 PULSE = 0.0585  # m/s, of an accelerometer,
-COARSE = 0.234  # and in its coarse range, for a script has no room for more pulses
+COARSE = 0.468  # and in its coarse range, for a script has no room for more pulses
 FASTEST = {PIPAX: 32, PIPAZ: 32, CDUY: 64}  # pulses that an instrument sends in a hundredth of a second at most
 RADIAN = 3.141592653589793 / 180
 DEGREE = 32768 / 360  # pulses of CDUY
@@ -46,7 +46,8 @@ TURNING = 4.0 * RADIAN  # what a jet brings each second, in radians a second
 LAG = 0.2  # seconds, of the engine
 FULL = 45000.0  # N
 DRY = 6500.0  # kg, without fuel
-LOADED = 8500.0  # kg, with all of it
+LOADED = 8500.0  # kg, with all of it near the site,
+LOADED_IN_ORBIT = 14700.0  # and in orbit
 ASCENT_DRY = 2350.0  # kg, of the ascent stage without fuel
 ASCENT_FUEL = 2350.0  # kg
 ASCENT_THRUST = 15600.0  # N: this engine has no throttle
@@ -69,17 +70,19 @@ FAULTS = ("radar", "forward-jet", "back-jet", "engine", "ascent-engine")
 class Craft:
     """Where the craft is and how it moves, and what its instruments have counted."""
 
-    def __init__(self, height=2300.0, way=7500.0, forward=150.0, down=45.0, seed=1, fuel=LOADED - DRY):
+    def __init__(self, height=2300.0, way=7500.0, forward=150.0, down=45.0, seed=1, fuel=None, is_far=False):
         noise = Noise(seed)
-        self.noise = noise
+        self.noise, self.is_far = noise, is_far
         self.height, self.way, self.forward, self.up = height, way, forward, -down
-        self.mass = max(DRY, LOADED * (1 + noise.between(-0.015, 0.015)) - (LOADED - DRY - fuel))
+        loaded, tilt, mass_error, speed_error = (LOADED_IN_ORBIT, -90, 0.005, 0.05) if is_far else (LOADED, -43, 0.015, 1.0)
+        spent = 0.0 if fuel is None else loaded - DRY - fuel
+        self.mass = max(DRY, loaded * (1 + noise.between(-mass_error, mass_error)) - spent)
         self.known_height = height + noise.between(-40, 40)
-        self.known_mass = LOADED
-        self.tilt = (-43 + noise.between(-3, 3)) * RADIAN
+        self.known_mass = loaded
+        self.tilt = (tilt + noise.between(-3, 3)) * RADIAN
         self.turning = noise.between(-0.5, 0.5) * RADIAN
-        self.known_forward = forward + noise.between(-2, 2)
-        self.known_up = -down + noise.between(-1, 1)
+        self.known_forward = forward + noise.between(-2 * speed_error, 2 * speed_error)
+        self.known_up = -down + noise.between(-speed_error, speed_error)
         self.wanted = self.answered = 0
         self.thrust = self.command = 25500.0
         self.jets = 0
@@ -90,7 +93,7 @@ class Craft:
         self.contact = False
         self.seconds = 0.0
         self.faults = []
-        self.pulse = PULSE
+        self.pulse, self.rounding = PULSE, 0.0
         self.counted = {PIPAX: 0.0, PIPAZ: 0.0}
         self.sent = {PIPAX: 0, PIPAZ: 0, CDUY: self.angle()}
 
@@ -111,7 +114,7 @@ class Craft:
             self.wanted = write.value & 0o17
         elif write.channel == STAGING:
             self.stage(write.value)
-            self.coarsen(write.value)
+            self.scale_pulses(write.value)
         elif write.channel == LAMPS:
             self.engine = bool(write.value & ENGINE_ON)
             self.flying = self.flying or self.engine
@@ -155,13 +158,15 @@ class Craft:
             self.staged, self.thrust = True, 0.0
             self.dry, self.mass = ASCENT_DRY, ASCENT_DRY + self.ascent_fuel
 
-    def coarsen(self, word):
-        """Gives the accelerometers their coarse range, if bit 2 says so. What is not yet a pulse is kept."""
-        if word & 2 and self.pulse == PULSE:
-            self.pulse = COARSE
+    def scale_pulses(self, word):
+        """Gives the accelerometers their coarse range if bit 2 says so, or else the fine one. What is not yet a pulse is kept. Coarse
+        pulses are rounded, so that no speed is lost on the average."""
+        pulse = COARSE if word & 2 else PULSE
+        if pulse != self.pulse:
             for counter in self.counted:
-                self.counted[counter] -= self.sent[counter] * PULSE
+                self.counted[counter] -= self.sent[counter] * self.pulse
                 self.sent[counter] = 0
+            self.pulse, self.rounding = pulse, 0.5 if word & 2 else 0.0
 
     def fuel(self):
         """The fuel of the stage in use, in kg."""
@@ -206,7 +211,7 @@ class Craft:
 
     def pulses(self):
         """The pulses since the last call: counter, kind and how many."""
-        up, forward = math.floor(self.counted[PIPAX] / self.pulse), math.floor(self.counted[PIPAZ] / self.pulse)
+        up, forward = (math.floor(self.counted[counter] / self.pulse + self.rounding) for counter in (PIPAX, PIPAZ))
         counts = {PIPAX: up, PIPAZ: forward, CDUY: self.angle()}
         if counts == self.sent:  # in every third step
             return
@@ -240,6 +245,9 @@ class Craft:
         return magnitude if seen >= 0 else magnitude ^ 0o77777
 
 
+ORBIT_LOAD = (3, 0o100, 2)  # the cell ORBNAV
+
+
 def double(value):
     """A number as two words of fourteen digits, the upper one in units of one."""
     parts = nearest(abs(value) * 16384)
@@ -248,10 +256,13 @@ def double(value):
 
 
 def load(craft):
-    """The erasable load: bank, offset and word of each cell."""
-    state = [-craft.way, 64 * craft.known_forward, craft.known_height, 64 * craft.known_up, craft.known_mass]
-    words = [word for value in state for word in double(value)]
-    return [(3, offset, word) for offset, word in enumerate(words)] + [(0, CDUY, craft.angle() % 32768)]
+    """The erasable load: bank, offset and word of each cell. Far from the site it is in the units of an orbit, and says so."""
+    state = [-craft.way, 64 * craft.known_forward, craft.known_height, 64 * craft.known_up]
+    if craft.is_far:
+        state = [value / 32 for value in state]
+    words = [word for value in (*state, craft.known_mass) for word in double(value)]
+    cells = [(3, offset, word) for offset, word in enumerate(words)] + [(0, CDUY, craft.angle() % 32768)]
+    return [*cells, ORBIT_LOAD] if craft.is_far else cells
 
 
 APPROACH = {0.5 + 0.25 * n: key for n, key in enumerate("VERB 3 7 ENTR 6 4 ENTR PRO".split())}
@@ -301,7 +312,7 @@ def abort_has_ended(agc, craft):
     return (craft.in_orbit() or craft.staged and craft.mass <= craft.dry) and agc.panel()["PROG"] in ("70", "71")
 
 
-def fly(agc, craft, keys=APPROACH, seconds=900, disturb=None):
+def fly(agc, craft, keys=APPROACH, seconds=1500, disturb=None):
     """Flies, and yields the seconds and the writes of each step, up to three seconds after the ground, or five after the end
     of an abort, or ten after the last key if the engine is not on by then.
 
@@ -570,14 +581,16 @@ class Instrument:
 def show_in_browser(words, craft):
     """Shows craft and DSKY in a browser until Control-C."""
     import agc_web
-    from agc_web.beside import Beside, opened, text_of
+    from agc_web.beside import Beside, opened, texts_of
     from agc_web.command import attached
 
     instrument = Instrument(craft, words.seed, lambda seed: craft_of(words, seed))
     start = lambda names: Console(words.rope, words.script, names=names, program=words.program, detached=True)
     note = lambda text: print(f"craft: {text}", file=sys.stderr)
-    guide, listing = (text_of(kind, None, words.rope, note) for kind in ("guide", "listing"))
-    agc, found = opened(start, Beside(listing=listing), words.rope, note)
+    texts = texts_of({}, words.rope, note)
+    if words.orbit:
+        texts["guide"] = None  # its steps land from high gate
+    agc, found = opened(start, Beside(**texts), words.rope, note)
     others = attached(words.instruments, words.listen)
 
     def begin(session):
@@ -588,8 +601,7 @@ def show_in_browser(words, craft):
     with agc:
         try:
             agc_web.serve(
-                agc, [instrument], port=words.port, guide=guide, save=words.save, listen=words.listen, begin=begin,
-                **found._asdict(),
+                agc, [instrument], port=words.port, save=words.save, listen=words.listen, begin=begin, **found._asdict(),
             )
         except OSError as error:
             sys.exit(f"craft: {'port' if error.filename is None else error.filename}: {error.strerror}")
@@ -657,19 +669,30 @@ def key_at(text):
 
 HIGH_GATE = {"height": 2300.0, "way": 7500.0, "forward": 150.0, "down": 45.0}
 BEFORE_HIGH_GATE = {"height": 3900.0, "way": 15000.0, "forward": 200.0, "down": 50.0}
-"""Where a flight starts if the command line does not say so, by P64 or by P63."""
+IN_ORBIT = {"height": 15000.0, "way": 500000.0, "forward": 1692.0, "down": 0.0}
+"""Where a flight starts if the command line does not say so: by P64; by P63; and by P63 in orbit."""
 
 RANGES = {"height": (30, 4000), "way": (0, 15000), "forward": (-20, 180), "down": (-20, 100)}
 BRAKING_RANGES = {"height": (2500, 4000), "way": (9000, 15500), "forward": (120, 210), "down": (0, 80)}
-"""What a flight may start from, by P64 or by P63."""
+ORBIT_RANGES = {"height": (13000, 16000), "way": (470000, 520000), "forward": (1660, 1700), "down": (-5, 10)}
+"""What these may start from."""
 
 LOADS = {"seed": (0, SEEDS - 1), "fuel": (0, 2000), "ascent_fuel": (0, 2350), "loaded_height": (-16000, 16000), "loaded_mass": (-16000, 16000)}
 """What else has a range."""
 
 
+def begins(words):
+    """Returns where a flight starts by itself, its ranges and its keys."""
+    if words.orbit:
+        return IN_ORBIT, {**ORBIT_RANGES, **LOADS, "fuel": (0, 8200)}, BRAKING
+    if words.braking:
+        return BEFORE_HIGH_GATE, {**BRAKING_RANGES, **LOADS}, BRAKING
+    return HIGH_GATE, {**RANGES, **LOADS}, APPROACH
+
+
 def refusal(words):
     """Returns why a flight cannot start so, or None. The page gives the range and its reasons."""
-    for name, (low, high) in {**(BRAKING_RANGES if words.braking else RANGES), **LOADS}.items():
+    for name, (low, high) in begins(words)[1].items():
         value = getattr(words, name)
         if value is not None and not low <= value <= high:
             return f"argument --{name.replace('_', '-')}: {value:g} is outside {low} to {high}"
@@ -701,11 +724,13 @@ def asked():
     add("--way", type=finite, help="metres before the site, 0 to 15000 (7500)")
     add("--forward", type=finite, help="forward speed, -20 to 180 m/s (150)")
     add("--down", type=finite, help="speed down, -20 to 100 m/s (45)")
-    add("--braking", action="store_true", help="start before high gate, by P63: 15000 m, 3900 m up, 200 m/s, 50 m/s down")
+    start = parser.add_mutually_exclusive_group().add_argument
+    start("--braking", action="store_true", help="start before high gate, by P63: 15000 m, 3900 m up, 200 m/s, 50 m/s down")
+    start("--orbit", action="store_true", help="start in orbit, by P63: 500000 m, 15000 m up, 1692 m/s")
     add("--seed", type=int, default=1, help="for the radar's noise, mass, tilt and the known height (1)")
     add("--key", action="append", type=key_at, default=[], metavar="SECOND:KEY", help="one more key, as 60:VERB")
     add("--script", default=os.devnull, help="a script whose events happen as well")
-    add("--fuel", type=finite, default=LOADED - DRY, help="kg of fuel, 0 to 2000 (2000); the computer is not told")
+    add("--fuel", type=finite, help="kg of fuel, 0 to 2000 (2000), in orbit to 8200 (8200); the computer is not told")
     add("--ascent-fuel", type=finite, default=ASCENT_FUEL, help="kg of fuel in the ascent stage, 0 to 2350 (2350)")
     add("--loaded-height", type=finite, metavar="HEIGHT", help="the height in the erasable load, instead of the right one")
     add("--loaded-mass", type=finite, metavar="MASS", help="the mass in the erasable load (8500)")
@@ -721,7 +746,7 @@ def asked():
     add("--rope", default=ROPE, help="another rope")
     add("--program", help="another agc-console")
     words = parser.parse_args()
-    for name, value in (BEFORE_HIGH_GATE if words.braking else HIGH_GATE).items():
+    for name, value in begins(words)[0].items():
         if getattr(words, name) is None:
             setattr(words, name, value)
     wrong = refusal(words)
@@ -733,7 +758,7 @@ def asked():
 def craft_of(words, seed=None):
     """Returns the craft that the command line describes, or that with another seed."""
     seed = words.seed if seed is None else seed
-    craft = Craft(words.height, words.way, words.forward, words.down, seed, words.fuel)
+    craft = Craft(words.height, words.way, words.forward, words.down, seed, words.fuel, bool(words.orbit))
     craft.faults = words.fault
     craft.ascent_fuel = words.ascent_fuel
     if words.loaded_height is not None:
@@ -778,8 +803,7 @@ def table_of(agc, craft, words, keys):
 
 def main():
     words = asked()
-    keys = dict(BRAKING if words.braking else APPROACH)
-    keys.update(words.key)
+    keys = {**begins(words)[2], **dict(words.key)}
     craft = craft_of(words)
     if words.web:
         show_in_browser(words, craft)

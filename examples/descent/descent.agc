@@ -2,8 +2,8 @@
 # README.md beside this file says what each bank holds. Numbers of DEC and VN are decimal, all others octal. A comment at
 # a subroutine says what it takes and gives; A and L are lost unless it says something else.
 # Units: lengths 1 m, speeds and time to go 1/64, accelerations 1/1024 m/s/s, mass 1 kg, thrust 4 N, angles 32768 to a
-# turn, steps of time 1/256 s. A second word counts 16384ths of the first one's unit. From an abort on, lengths of the
-# state are 32 m and speeds 1/2 m/s.
+# turn, steps of time 1/256 s. A second word counts 16384ths of the first one's unit. In the units of an orbit, which P63
+# has far from the site and an abort from its first second on, lengths of the state are 32 m and speeds 1/2 m/s.
 
 # ---- channels
 LCHAN   EQUALS  1           # L as a channel
@@ -20,7 +20,7 @@ CHAN32  EQUALS  32          # bit 14 is 0 while PRO is down
 DNWORD1 EQUALS  34          # the downlink's two words
 DNWORD2 EQUALS  35
 THROTTLE EQUALS 42          # the thrust that is commanded, 4 N
-STAGING EQUALS  43          # bit 1: the descent stage is dropped; bit 2: the accelerometers' pulses are coarse, 0.234 m/s
+STAGING EQUALS  43          # bit 1: the descent stage is dropped; bit 2: the accelerometers' pulses are coarse, 0.468 m/s
 
 # ---- erasable memory. Banks 0, 1 and 2 are always at hand, bank 3 is in EB from the start on.
         EBANK=  XN
@@ -165,8 +165,8 @@ UFWD    ERASE               # half of the forward part of one metre along an axi
 UUP     ERASE               # and half of the upward part
 RODCOUNT ERASE              # clicks of the switch for the rate of descent, up is plus,
 REDCOUNT ERASE              # and of the hand controller, forward is plus
-ORBNAV  ERASE               # an abort: 1 once the state is in the units of an orbit,
-STAGED  ERASE               # 1 once the descent stage is dropped,
+ORBNAV  ERASE               # 1 while the state is in the units of an orbit; 2: it was loaded so, for P63
+STAGED  ERASE               # an abort: 1 once the descent stage is dropped,
 ENGCUT  ERASE               # from 1 on once the engine is off in orbit
 PULL    ERASE               # the gravity that is left, less what the speed makes up for, 2 to the -13 m/s/s
 NEWPULL ERASE               # the same at the end of a step
@@ -183,6 +183,11 @@ SPEEDMS ERASE               # and speed, m/s
 ECCX    ERASE               # eccentricity, upward from the perilune,
 ECC     ERASE               # and all of it
 RHERE   ERASE               # the way to the Moon's middle, 0.2 km
+BRKTGO  ERASE               # for the display in P63: time to go, 0.1 s,
+BRKWAY  ERASE               # place forward of the site, 0.1 km,
+BRKALT  ERASE               # and altitude, m
+STEPREM ERASE               # what the steps have left of the time, 2 to the -22 s,
+NEWREM  ERASE               # and what the step in hand leaves
 
 # ---- bank 02: vectors, Executive, Waitlist, interrupts
         SETLOC  4000
@@ -1185,7 +1190,8 @@ STEP    EXTEND
         TC      Q
 # THRUST: A = the thrust for the accelerations AX and AZ, by the mass in the VAC area, 4.5 to 42.3 kN. Upward -1.12 to
 # 3 m/s/s are possible; GZ is that and gravity. Forward AX gets what is left: GZ at most, for a tilt of 45 degrees, and
-# 6 m/s/s less GZ, for the engine's sake. The magnitude is a square root.
+# 6 m/s/s less GZ, for the engine's sake. The magnitude is a square root. THRUST3: the same for AX, the square of GZ in
+# MPAC and the address in LAWQ, without these bounds.
 THRUST  EXTEND
         QXCH    LAWQ
         CA      AZ
@@ -1716,7 +1722,7 @@ ENTV37  TC      FREEDISP
 GOTOP63 CCS     AVEGFLG
         TCF     WRONGKEY
         TC      BANKCALL
-        CADR    LOADCHK
+        CADR    BRKCHK
         TC      PHASCHNG
         OCT     24
         TCF     RESTART
@@ -1727,7 +1733,7 @@ GOTOP64 CCS     AVEGFLG
         TC      PHASCHNG
         OCT     14
         TCF     RESTART
-# P65 and P66, in flight and before an abort only. P66 begins with the altitude rate of this moment. P70 and P71, in
+# P65 and P66, near the site and before an abort only. P66 begins with the altitude rate of this moment. P70 and P71, in
 # flight; P70 not after P71, which drops its engine.
 GOTOP65 CA      ZERO
         TS      MPAC
@@ -1743,6 +1749,8 @@ INFLIGHT TS     MPAC +1
         CCS     AVEGFLG
         TCF     +2
         TCF     WRONGKEY    # not on the ground
+        CCS     ORBNAV
+        TCF     WRONGKEY    # nor far from the site
         CS      SIXTY9
         AD      MODREG
         EXTEND
@@ -1872,7 +1880,15 @@ SIGNROWS DEC    5
 
 # A noun's four words: how many registers can be loaded, and its number; the cells of its registers. A minus is before
 # those in 1/64, which are shown in 1/10.
-NOUNTAB VN      0044        # 44: apolune, perilune (xxxx.x km), forward speed (m/s)
+NOUNTAB VN      0061        # 61 far from the site: time to go (xxxx.x s), place forward of it (xxxx.x km), mass (kg)
+        ADRES   BRKTGO
+        ADRES   BRKWAY
+        ADRES   MASS
+        VN      0063        # 63 there: forward speed (m/s), altitude rate (xxxx.x m/s), altitude (m)
+        ADRES   SPEEDMS
+        ADRES   ALTRATE
+        ADRES   BRKALT
+        VN      0044        # 44: apolune, perilune (xxxx.x km), forward speed (m/s)
         ADRES   APOLUNE
         ADRES   PERILUNE
         ADRES   SPEEDMS
@@ -1892,7 +1908,7 @@ NOUNTAB VN      0044        # 44: apolune, perilune (xxxx.x km), forward speed (
         ADRES   MASS
         ADRES   PMASS
         ADRES   TMASS
-        VN      0063        # 63, and all that follow, until an abort: forward speed, altitude rate, altitude
+        VN      0063        # 63, and all that follow, near the site: forward speed, altitude rate, altitude
         -ADRES  VX
         -ADRES  VZ
         ADRES   ZN
@@ -1920,13 +1936,26 @@ NOUNTAB VN      0044        # 44: apolune, perilune (xxxx.x km), forward speed (
         ADRES   LPDANG
         -ADRES  VZ
         ADRES   ZN
-NOUNLAST DEC    48          # where the last one begins, and 4
-ORBLAST DEC     20          # the same of the last one that an abort leaves
+NOUNLAST DEC    56          # where the last one begins, and 4
+ORBLAST DEC     28          # the same of the last one for the units of an orbit
 SEVENTY1 DEC    71
 NINETY4 DEC     94
 
-# FIND: NNPTR = the place of noun NOUNREG in NOUNTAB, and 4. Without such a noun the key was wrong.
-FINDORB CA      ORBLAST
+# FIND: NNPTR = the place of noun NOUNREG in NOUNTAB, and 4. Without such a noun the key was wrong. In an abort nouns 61 and
+# 63 are none.
+FINDORB CS      SIXTY9
+        AD      MODREG
+        EXTEND
+        BZMF    FINDFAR
+        CS      SIXTY
+        AD      NOUNREG
+        EXTEND
+        BZMF    FINDFAR
+        CS      SEVENTY
+        AD      NOUNREG
+        EXTEND
+        BZMF    WRONGKEY
+FINDFAR CA      ORBLAST
         TCF     FIND1
 FIND    CCS     ORBNAV
         TCF     FINDORB
@@ -2103,7 +2132,7 @@ SERV1   TS      TEMA
         DDOUBL
         TS      STEPDT
         CCS     ORBNAV
-        TCF     ORBITS      # an abort works the state on by itself
+        TCF     ORBITS      # in the units of an orbit the state is worked on apart
         CA      USEDX       # a pulse is 0.0585 m/s, 3.744 of our units
         DOUBLE
         EXTEND
@@ -2462,7 +2491,9 @@ P63TASK CA      PRIO20
         TC      NOVAC
         2CADR   P63JOB
         TC      TASKOVER
-P63JOB  CA      SIXTY3
+P63JOB  TC      BANKCALL
+        CADR    BRKBEGIN
+        CA      SIXTY3
         TCF     +2
 P64JOB  CA      SIXTY4
         TS      MODREG
@@ -2651,8 +2682,9 @@ FARGATE CA      SITEBIT
         OCT     3003
         TCF     P66
 # P65 and P66: the altitude rate goes to the crew's with 1.6 s, or to -(0.8 m/s + altitude/32 s), 30.8 m/s at most.
-# While the craft is fast forward, it descends less: by half of what its speed has over 0.5 m/s + altitude/8 s. A click of
-# the switch for the rate of descent begins P66 with the rate of this moment. It changes the crew's rate by 0.3 m/s.
+# While the craft is fast forward, it descends less: in P65 by half of what its speed has over 0.5 m/s + altitude/8 s, in
+# P66 by twice of what it has over 0.5 m/s + altitude/16 s. A click of the switch for the rate of descent begins P66 with
+# the rate of this moment. It changes the crew's rate by 0.3 m/s.
 P66LAW  EXTEND
         QXCH    PROGQ
 P66     CS      SIXTY6
@@ -2688,6 +2720,7 @@ RODCREW CA      ZERO
         DEC     960
         TC      ATLEAST
         DEC     0
+        TS      TEMA
         EXTEND
         MP      EIGHT
         CA      L
@@ -2695,8 +2728,25 @@ RODCREW CA      ZERO
         AD      RODMOST     # minus: the crew wants more
         TC      ATMOST
         DEC     0
-        COM
-        AD      RODMOST
+        EXTEND
+        SU      RODMOST
+        EXTEND              # a rate up is as the crew wants it
+        BZMF    RODUP
+        TS      RODMOST
+        CA      TEMA
+        DOUBLE
+        DOUBLE
+        AD      ROD1
+        TS      TEMA
+        CA      VX
+        TC      ABS
+        EXTEND
+        SU      TEMA
+        TC      ATMOST
+        DEC     1280        # 20 m/s
+        DOUBLE
+        TCF     RODLESS
+RODUP   COM
 RODSET  TC      RATELAW
 # The forward speed goes to zero: with 8 s by 0.35 m/s/s at most, or with 16 s by 1.2 m/s/s at most, whichever is more.
         CS      VX
@@ -2736,7 +2786,7 @@ RODAUTO CA      ZN
         SU      TEMA
         EXTEND
         MP      HALF
-        TC      ATLEAST
+RODLESS TC      ATLEAST
         DEC     0
         EXTEND
         SU      RODMOST
@@ -2756,10 +2806,12 @@ RATELAW EXTEND
         TS      AZ
         TC      LAWQ
 
-# P63, the braking phase: to high gate, 7500 m before the site, 2300 m up, at 150 m/s forward. The time to go is that at
-# the mean of both speeds. The craft brakes evenly, and goes straight down to that altitude, never up. Two seconds before
-# high gate P64 begins.
-P63LAW  EXTEND
+# P63, the end of the braking phase: to high gate, 7500 m before the site, 2300 m up, at 150 m/s forward. The time to go is
+# that at the mean of both speeds. The craft brakes evenly, and goes straight down to that altitude, never up; its rate
+# goes to that with 12.8 s. Two seconds before high gate P64 begins. What comes before is BRAKE, in the units of an orbit.
+P63LAW  CCS     ORBNAV
+        TC      ENDOFJOB    # no time has gone by since then
+        EXTEND
         QXCH    PROGQ
         CS      XN
         AD      LESS7500
@@ -2800,6 +2852,11 @@ P63LAW  EXTEND
         MP      BIT13
         TC      ATMOST
         DEC     0
+        EXTEND
+        SU      VZ
+        EXTEND
+        MP      BIT12
+        AD      VZ
         TC      RATELAW
         TCF     LAWDONE
 HIGHGATE CA     SIXTEEN
@@ -2961,8 +3018,33 @@ LOADCHK CCS     ORBNAV
 BADLOAD TC      POODOO
         OCT     3005
         TC      Q
+# BRKCHK: the same for P63. Its load may be in the units of an orbit: its altitude is up to 16.4 km then, its mass up to
+# 15,500 kg.
+BRKCHK  CS      TWO
+        AD      ORBNAV
+        EXTEND
+        BZF     +2
+        TCF     LOADCHK
+        CA      ZN
+        EXTEND
+        BZMF    BADLOAD
+        AD      LESS512
+        EXTEND
+        BZMF    +2
+        TCF     BADLOAD
+        CA      MASS
+        AD      LESS6500
+        EXTEND
+        BZMF    BADLOAD
+        AD      LESS9000
+        EXTEND
+        BZMF    +2
+        TCF     BADLOAD
+        TC      Q
+LESS512 DEC     -512
 LESS6500 DEC    -6500
 LESS2500 DEC    -2500
+LESS9000 DEC    -9000
 
 # JUDGE: A = 68 or 69 for the touchdown, by the accelerometers: since the autopilot's last look they have counted
 # gravity, and what stopped the craft. Outside the limits, 1.5 m/s down, 0.6 m/s forward or back and 3 degrees, alarm
@@ -3064,7 +3146,8 @@ RANGEJOB CA     XN
         TS      RANGE
         TC      ENDOFJOB
 
-# ---- bank 10: an abort to an orbit, by P70 with the descent engine, by P71 with the ascent engine
+# ---- bank 10: what has the units of an orbit: P63 far from the site, and an abort to an orbit, by P70 with the descent
+# engine, by P71 with the ascent engine
         BANK    10
 # DPTIMES: MPAC becomes MPAC times A, a fraction.
 DPTIMES TS      TEMC
@@ -3128,16 +3211,30 @@ ORBGAIN EXTEND
         EXTEND
         MP      PULSE2
         DXCH    MPAC
-        CA      BIT12
+        CA      BIT13
         TC      DPTIMES
         EXTEND
         DCA     ORBTEM
         DAS     MPAC
         TC      LAWQ
 
-# ORBSTEP: SERVICER's step in an abort. Forward the pulses count, and the turning of the vertical takes VX VZ/R; up they
-# count, less the gravity that is left in the middle of the step.
-ORBSTEP INDEX   PUSHLOC
+# ORBSTEP: SERVICER's step. What is less than a 256th of a second is left for the next one. Forward the pulses count, and the
+# turning of the vertical takes VX VZ/R; up they count, less the gravity that is left in the middle of the step.
+ORBSTEP CA      USEDT
+        EXTEND
+        MP      HUNDRTHS
+        DDOUBL
+        DDOUBL
+        DXCH    MPAC
+        CA      STEPREM
+        TS      L
+        CA      ZERO
+        DAS     MPAC
+        EXTEND
+        DCA     MPAC
+        TS      STEPDT
+        LXCH    NEWREM
+        INDEX   PUSHLOC
         CA      3
         DOUBLE
         DOUBLE
@@ -3180,8 +3277,8 @@ ORBSTEP INDEX   PUSHLOC
         AD      PUSHLOC
         TS      BLK
         TC      STEP
-# An engine that is on gives five pulses a second at least. If the descent engine does not, its fuel is gone: P71. If the
-# ascent engine does not for three seconds, that is an alarm. An engine without thrust burns nothing.
+# An engine that is on gives three pulses a second at least. If the descent engine does not in P70, its fuel is gone: P71.
+# Three seconds with less in P63 or P71 are an alarm. An engine without thrust burns nothing.
         CCS     ENGCUT
         TCF     ORBOUT
         CA      USEDT
@@ -3194,19 +3291,23 @@ ORBSTEP INDEX   PUSHLOC
         CA      USEDZ
         TC      ABS
         AD      TEMA
-        AD      LESS4
+        AD      LESS2
         EXTEND
         BZMF    NOPUSH
         CA      ZERO
         TS      NOTHRUST
         TCF     ORBBURN
 NOPUSH  INCR    NOTHRUST
+        CS      PROG63
+        AD      MODREG
+        EXTEND
+        BZF     NOPUSH1
         CCS     STAGED
-        TCF     +4
+        TCF     NOPUSH1
         CA      PROG71
         TS      MODREG
         TCF     ORBOUT
-        CS      THREE
+NOPUSH1 CS      THREE
         AD      NOTHRUST
         EXTEND
         BZF     +2
@@ -3240,9 +3341,15 @@ ORBOUT1 TS      TEMA
         ADS     DELT
         CA      NEWPULL
         TS      PULL
+        CA      NEWREM
+        TS      STEPREM
         CA      ONE
         TS      ORBNAV
         RELINT
+        CS      PROG63
+        AD      MODREG
+        EXTEND
+        BZF     BRAKE
         TCF     ORBLAW
 
 # ABORTLAW: GUIDE jumps there in P70 and P71. At first the state in the VAC area comes into the units of an orbit, and the
@@ -3272,6 +3379,7 @@ INTOORB TS      TEMB
         TS      USEDX
         TS      USEDZ
         TS      USEDT
+        TS      NEWREM
         TS      NOTHRUST
         TC      PULLS
         TC      BANKCALL
@@ -3305,7 +3413,7 @@ LASTFINE EXTEND
         DXCH    MPAC
         CA      TEMC
         TC      ORBGAIN
-        CA      HALF
+        CA      BIT13
         TC      DPTIMES
         DXCH    MPAC
         INDEX   PROGQ
@@ -3358,14 +3466,7 @@ ORBENG  TS      FCMD
         TS      DIVISOR
         TC      DIVS
         TS      ORBTGO
-        EXTEND
-        DCA     VZ
-        DDOUBL
-        DDOUBL
-        DDOUBL
-        EXTEND
-        MP      FIVE8THS
-        TS      ALTRATE
+        TC      RATESHOW
         CA      ZN
         EXTEND
         MP      FOUR5THS
@@ -3409,8 +3510,8 @@ ORBENG  TS      FCMD
         TC      WAITLIST
         2CADR   CUTTASK
         RELINT
-# Up: upright, until the craft climbs by 15 m/s. Then by 6/T (way/T) - 4 VZ/T to the altitude of the orbit, at rest there;
-# in the last ten seconds without a change of the rate.
+# Up: upright, until the craft climbs by 15 m/s. Then to the altitude of the orbit, at rest there; in the last ten seconds
+# without a change of the rate.
 ORBUP   CS      VZ
         AD      RISERATE
         EXTEND
@@ -3427,10 +3528,31 @@ ORBTURN CA      ORBTGO
         EXTEND
         BZMF    ORBHOLD
         EXTEND
-        DCS     ZN
-        DXCH    MPAC
-        EXTEND
         DCA     HORBIT
+        DXCH    MPAC
+        CA      ZERO
+        TC      CLIMB
+        TCF     +2
+ORBHOLD CA      ZERO
+        TC      ENGLEFT     # forward is what the engine has left
+        TC      TILTFOR
+ORBTILT TS      THETAD
+        INHINT
+        CCS     AVEGFLG     # the ground may have come meanwhile
+        TCF     +2
+        TC      ENDOFJOB
+        CA      FCMD
+        EXTEND
+        WRITE   THROTTLE
+        TC      ENDOFJOB
+
+# CLIMB: A = the acceleration up that brings the craft in the time to go T to the altitude in MPAC, at a rate there that is
+# minus a half of A: 6/T (way/T) - 4 VZ/T + A/T, 2.5 m/s/s at most.
+CLIMB   TS      ORBTEM
+        EXTEND
+        QXCH    LAWQ
+        EXTEND
+        DCS     ZN
         DAS     MPAC
         CA      SIXBY16
         TC      DPTIMES
@@ -3443,21 +3565,25 @@ ORBTURN CA      ORBTGO
         DDOUBL
         DDOUBL
         AD      TEMB
+        AD      ORBTEM
         EXTEND
         MP      HALF
         DXCH    MPAC
         TC      DIVS
         TC      LIMIT
         DEC     2560        # 2.5 m/s/s
-        TCF     +2
-ORBHOLD CA      ZERO
-        TS      AZ
-        CA      PULL        # and the gravity that is left
+        TC      LAWQ
+# ENGLEFT: AX = what the engine has left of ATOT for the way forward if it brings A upward, and the gravity that is left:
+# GZ, 19/20 of ATOT at most.
+ENGLEFT TS      AZ
+        EXTEND
+        QXCH    LAWQ
+        CA      PULL
         EXTEND
         MP      BIT12
         AD      AZ
         TS      GZ
-        CA      ATOT        # 19/20 of the engine's at most
+        CA      ATOT
         EXTEND
         MP      MOSTUP
         TS      TEMA
@@ -3468,7 +3594,6 @@ ORBHOLD CA      ZERO
         TCF     +3
         CA      TEMA
         TS      GZ
-# Forward is what the engine has left; the tilt is from that, by the tangent that is not above one.
         CA      GZ
         EXTEND
         SQUARE
@@ -3481,10 +3606,15 @@ ORBHOLD CA      ZERO
         DAS     MPAC
         TC      SQRT
         TS      AX
+        TC      LAWQ
+# TILTFOR: A = the tilt for the accelerations AX forward and GZ up, by the tangent that is not above one.
+TILTFOR EXTEND
+        QXCH    LAWQ
+        CA      AX
         EXTEND
         SU      GZ
         EXTEND
-        BZMF    ORBSTEEP
+        BZMF    STEEP
         CA      GZ
         ZL
         DXCH    MPAC
@@ -3494,23 +3624,25 @@ ORBHOLD CA      ZERO
         TC      ARCTAN
         COM
         AD      LEVEL
-        TCF     ORBTILT
-ORBSTEEP CA     AX
+        TC      LAWQ
+STEEP   CA      AX
         ZL
         DXCH    MPAC
         CA      GZ
         TS      DIVISOR
         TC      DIVS
         TC      ARCTAN
-ORBTILT TS      THETAD
-        INHINT
-        CCS     AVEGFLG     # the ground may have come meanwhile
-        TCF     +2
-        TC      ENDOFJOB
-        CA      FCMD
+        TC      LAWQ
+# RATESHOW: the altitude rate for the display.
+RATESHOW EXTEND
+        DCA     VZ
+        DDOUBL
+        DDOUBL
+        DDOUBL
         EXTEND
-        WRITE   THROTTLE
-        TC      ENDOFJOB
+        MP      FIVE8THS
+        TS      ALTRATE
+        TC      Q
 
 # CUTTASK: the engine goes off in orbit.
 CUTTASK CCS     AVEGFLG
@@ -3603,10 +3735,208 @@ FROMHERE EXTEND
         MP      PER100M
         AD      TEMA
         TC      Q
+# P63 far from the site, for a load in the units of an orbit. BRKBEGIN, before PRO: the gravity that is left, the display,
+# and coarse pulses. Called by BANKCALL.
+BRKBEGIN EXTEND
+        QXCH    PROGQ
+        CCS     ORBNAV
+        TCF     +2
+        TCF     BRKBACK     # a load in the units of a landing
+        CA      THESTATE
+        TS      PUSHLOC     # the state itself in the place of a VAC area
+        TC      PULLS
+        TS      PULL
+        CA      ZERO
+        TS      PUSHLOC
+        TS      STEPREM
+        TS      ORBTGO
+        TC      BRKSHOW
+        CA      TWO
+        EXTEND
+        WOR     STAGING
+BRKBACK INDEX   PROGQ
+        TC      0
+# BRKSHOW: the display's time to go, place, speed, altitude rate and altitude.
+BRKSHOW EXTEND
+        QXCH    LAWQ
+        CA      ORBTGO
+        EXTEND
+        MP      FIVE8THS
+        TS      BRKTGO
+        CA      XN
+        EXTEND
+        MP      PER100M
+        TS      BRKWAY
+        CA      VX
+        EXTEND
+        MP      HALF
+        TS      SPEEDMS
+        TC      RATESHOW
+        CA      FOUR
+        TC      TIMES32     # in m
+        TS      BRKALT
+        TC      LAWQ
+# TIMES32: A and L = the state's words from XN + A on, times 32.
+TIMES32 EXTEND
+        INDEX   A
+        DCA     XN
+        DDOUBL
+        DDOUBL
+        DDOUBL
+        DDOUBL
+        DDOUBL
+        TC      Q
+
+# BRAKE: the law, to a point 12.8 km before the site, 3500 m up, 190 m/s forward and 45 m/s down. The time to go is that at
+# the mean of both speeds. Forward the craft brakes evenly, as far as the engine has something left for that. Eight seconds
+# before that point the state comes into the units of a landing.
+BRAKE   CA      DESCMOST
+        EXTEND
+        MP      BIT13
+        DXCH    MPAC
+        CA      MASS
+        TS      DIVISOR
+        TC      DIVS
+        TS      ATOT
+        EXTEND
+        DCS     XN
+        DXCH    MPAC
+        CA      LESSWAY
+        ADS     MPAC
+        CA      BIT12
+        TC      DPTIMES
+        CA      VX
+        AD      VBRAKE
+        TC      ATLEAST
+        DEC     64
+        TS      DIVISOR
+        TC      DIVS
+        TS      ORBTGO
+        TC      BRKSHOW
+        CA      ORBTGO
+        AD      LESS8SEC
+        EXTEND
+        BZMF    BRKEND
+        EXTEND
+        DCA     HBRAKE
+        DXCH    MPAC
+        CA      SINK2
+        TC      CLIMB
+        TC      ENGLEFT
+        CS      VBRAKE
+        ZL
+        DXCH    MPAC
+        EXTEND
+        DCA     VX
+        DAS     MPAC
+        CA      HALF
+        TC      DPTIMES
+        CA      ORBTGO
+        TS      DIVISOR
+        TC      DIVS
+        TC      ATLEAST
+        DEC     0
+        EXTEND
+        SU      AX
+        EXTEND
+        BZMF    +2
+        TCF     +2          # more than the engine has left
+        ADS     AX
+        CA      GZ
+        EXTEND
+        SQUARE
+        DXCH    MPAC
+        CA      PUSHADR
+        TS      LAWQ
+        TCF     THRUST3
+BRKPUSH TS      FCMD
+        TC      TILTFOR
+        COM                 # backward
+        TCF     ORBTILT
+# BRKEND: from here on the units are those of a landing, if the state has room there. Else this site cannot be reached, and
+# the program is P70. The pulses that have come since READACCS are coarse; they go into the speeds at once.
+BRKEND  CA      VX
+        TC      ABS
+        AD      LESS500
+        EXTEND
+        BZMF    +2
+        TCF     BRKFAR
+        CS      XN
+        AD      LESS500
+        EXTEND
+        BZMF    +2
+        TCF     BRKFAR
+        CA      ZN
+        AD      LESS500
+        EXTEND
+        BZMF    BRKNEAR
+BRKFAR  TC      ALARM
+        OCT     3003
+        TC      BANKCALL    # the nouns of P63 are gone
+        CADR    FREEDISP
+        CA      PROG70
+        TS      MODREG
+        CA      ABRTNOUN
+        TS      PDNOUN
+        TCF     ORBLAW
+BRKNEAR INHINT
+        CA      ZERO
+        XCH     PIPAZ
+        ADS     DELVX
+        CA      ZERO
+        XCH     PIPAX
+        ADS     DELVZ
+        CS      TWO
+        EXTEND
+        WAND    STAGING     # fine pulses
+        CA      ZERO
+        XCH     DELVX
+        DOUBLE
+        DOUBLE
+        DOUBLE
+        TC      LASTFINE
+        DAS     VX
+        CA      ZERO
+        XCH     DELVZ
+        DOUBLE
+        DOUBLE
+        DOUBLE
+        TC      LASTFINE
+        DAS     VZ
+        CA      SIX
+BRKNEAR1 TS     TEMB
+        TC      TIMES32
+        INDEX   TEMB
+        DXCH    XN
+        CA      TEMB
+        EXTEND
+        BZF     +3
+        AD      LESS2
+        TCF     BRKNEAR1
+        CA      ZERO
+        TS      ORBNAV
+        TS      NOTHRUST
+        TS      NORADAR
+        TS      RADGOT
+        RELINT
+        TC      ENDOFJOB
+THESTATE ADRES  XN -1
+PUSHADR ADRES   BRKPUSH
+LESSWAY DEC     -400        # 12.8 km
+VBRAKE  DEC     380         # 190 m/s
+HBRAKE  DEC     109         # 3500 m
+        DEC     6144
+SINK2   DEC     180         # twice 45 m/s
+LESS8SEC DEC    -128
+LESS500 DEC     -500        # 250 m/s, or 16 km
+PROG63  DEC     63
+PROG70  DEC     70
+ABRTNOUN DEC    94
 CENTRIF DEC     .603532     # 256/R in 2 to the -13, by 2
 PERMOON DEC     .301766     # 32/R in 2 to the -14
 GMOON   DEC     13271       # 1.62 m/s/s
 PULSE2  DEC     .936
+HUNDRTHS DEC    .64         # with four of these, 256ths of a second
 LESSHALF DEC    -50         # half a second
 PROG71  DEC     71
 ORBNOUN DEC     44

@@ -189,12 +189,12 @@ def show_in_browser(port):
     """Shows DSKY and orbit in a browser until Control-C."""
     import agc_web
     import orbit_view
-    from agc_web.beside import text_of
+    from agc_web.beside import texts_of
 
-    guide = text_of("guide", None, ROPE, lambda text: print(f"orbit.py: {text}", file=sys.stderr))
+    texts = texts_of({}, ROPE, lambda text: print(f"orbit.py: {text}", file=sys.stderr))
     with Console(ROPE, names=NAMES, detached=True) as console:
         try:
-            agc_web.serve(console, [orbit_view.Instrument()], port=port, names=NAMES, guide=guide)
+            agc_web.serve(console, [orbit_view.Instrument()], port=port, names=NAMES, **texts)
         except OSError as error:
             sys.exit(f"orbit.py: {'port' if error.filename is None else error.filename}: {error.strerror}")
 

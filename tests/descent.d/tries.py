@@ -27,6 +27,7 @@ HOUR = int(os.environ.get("HOUR", 307_200_000))
 SECOND = example.SECOND
 FLIGHTS = int(os.environ.get("FLIGHTS", 36))
 FORCED = int(os.environ.get("FORCED", 4))
+ORBITS = int(os.environ.get("ORBITS", 4))
 JOBS = int(os.environ.get("JOBS", os.cpu_count() or 1))
 
 
@@ -120,6 +121,11 @@ def start_of(seed):
             return start
 
 
+def craft_at(start, seed):
+    """The craft at a start: height, way, forward, down."""
+    return example.Craft(*start, seed, is_far=start[1] > 20000)
+
+
 class Engines:
     """What the computer's channel writes make of jets, engine and stages, for the second integration."""
 
@@ -128,7 +134,10 @@ class Engines:
         self.jets, self.is_on, self.is_flying, self.is_staged, self.is_dry = 0, False, False, False, False
 
     def look(self):
-        """There is no thrust from the hundredth of a second on in which the fuel ends."""
+        """A hundredth of a second begins: the thrust takes a twentieth of what it differs from the command. There is none from
+        the hundredth on in which the fuel ends."""
+        aim = (15600.0 if self.is_staged else self.aim) if self.is_on and not self.is_dry else 0.0
+        self.thrust += (aim - self.thrust) / 20
         self.is_dry = self.is_dry or self.mass - self.thrust / 3050 * 0.01 <= (2350 if self.is_staged else 6500)
         self.thrust = 0.0 if self.is_dry else self.thrust
 
@@ -144,11 +153,9 @@ class Engines:
             self.is_flying = self.is_flying or self.is_on
 
     def push(self, dt):
-        """The mean acceleration of a step; it burns the fuel. The ascent engine has 15,600 N and no throttle."""
-        aim = (15600.0 if self.is_staged else self.aim) if self.is_on and not self.is_dry else 0.0
-        after = aim + (self.thrust - aim) * math.exp(-dt / 0.2)
-        push, self.thrust = (self.thrust + after) / 2 / self.mass, after
-        self.mass -= push * self.mass / 3050 * dt
+        """The acceleration of a step; it burns the fuel. The ascent engine has 15,600 N and no throttle."""
+        push = self.thrust / self.mass
+        self.mass -= self.thrust / 3050 * dt
         return push
 
 
@@ -156,7 +163,7 @@ def integrated(start, seed, written, seconds):
     """Integrates the craft's flight by itself, from the channel writes and their cycles alone: around the middle of the Moon, in
     coordinates that do not turn, by steps of five milliseconds with Python's sine and cosine, angles in degrees. What is written
     acts from the next hundredth of a second on. Returns the speeds up and forward, the tilt, and the height in the end."""
-    born = example.Craft(*start, seed)
+    born = craft_at(start, seed)
     engines = Engines(born.mass, 25500.0)
     moon, radius, dt = 1.62 * 1737400.0**2, 1737400.0 + born.height, 0.005
     x, y, vx, vy = 0.0, radius, born.forward, born.up
@@ -346,6 +353,9 @@ def try_mistakes():
         (2, ["--forward", "300"], "craft.py: error: argument --forward: 300 is outside -20 to 180"),
         (2, ["--down", "101"], "craft.py: error: argument --down: 101 is outside -20 to 100"),
         (2, ["--braking", "--way", "7500"], "craft.py: error: argument --way: 7500 is outside 9000 to 15500"),
+        (2, ["--orbit", "--way", "450000"], "craft.py: error: argument --way: 450000 is outside 470000 to 520000"),
+        (2, ["--orbit", "--braking"], "craft.py: error: argument --braking: not allowed with argument --orbit"),
+        (2, ["--orbit", "--fuel", "8300"], "craft.py: error: argument --fuel: 8300 is outside 0 to 8200"),
         (2, ["--seed", "-1"], "craft.py: error: argument --seed: -1 is outside 0 to 2147483645"),
         # 20 and 40 times ten, and 40 squared by 4
         (
@@ -663,6 +673,22 @@ def try_rate_switch():
         judge("clicks in P64 do nothing", "64", machine.panel()["PROG"])
 
 
+def try_fast_switch():
+    """The site is moved 1,362 m nearer at second 68, and at 85 a click begins P66 with 24 m/s forward and 9 m/s down, which it holds:
+    as the craft is fast forward, it descends less, and lands within the limits all the same."""
+    craft = example.Craft(2208.0, 7252.0, 153.5, 47.2, 10215)
+    keys = {**example.APPROACH, 48.7: "ACA+", 85.2: "ROD-", 133.6: "ROD-"}
+    for place, key in enumerate("VERB 2 1 NOUN 6 9 ENTR - 0 1 3 6 2 ENTR KEYREL".split()):
+        keys[67.3 + 0.1 * place] = key
+    programs = []
+    with Machine() as machine:
+        for now, _ in example.fly(machine, craft, keys):
+            if round(100 * now) % 100 == 0 and machine.panel()["PROG"] not in programs:
+                programs.append(machine.panel()["PROG"])
+    judge("P65 and P66", True, programs[-3:] == ["65", "66", "68"])
+    judge("within the limits", True, craft.landed())
+
+
 def braked(seed):
     """A flight by P63: whether it landed, its programs, the last alarm, the way that was left, and its events."""
     chance = random.Random(4000 + seed)
@@ -691,6 +717,177 @@ def try_braking(flights):
             near("at the site", 0, miss, 40)
 
 
+def descended(number):
+    """A flight from orbit by P63, and its replay: a line for the table, and what was not as it should be."""
+    chance = random.Random(6000 + number)
+    start = list(example.IN_ORBIT.values())
+    if number:
+        start = [chance.uniform(*example.ORBIT_RANGES[name]) for name in example.IN_ORBIT]
+    craft = craft_at(start, number + 1)
+    writes, programs, nouns = [], [], {}
+    with Machine() as machine:
+        for now, written in example.fly(machine, craft, example.BRAKING):
+            writes += written
+            if round(100 * now) % 100 == 0:
+                panel = machine.panel()
+                programs += [panel["PROG"]] * (panel["PROG"] not in programs)
+                nouns[panel["PROG"], machine.word("ORBNAV")] = [panel["NOUN"], panel["R1"], panel["R3"], craft.forward, craft.height]
+        alarm, text, cycle = machine.word("FAILREG", 2), machine.script(), machine.cycle
+    script = os.path.join(scratch, f"orbit-{number}")
+    with open(script, "w") as file:
+        file.write(text)
+    log = ran(agc, example.ROPE, script, "--limit", str(cycle), "--log").stdout.splitlines()
+    up, forward, tilt, miss = craft.touched or (-99, 99, 99, 99)
+    other = integrated(start, number + 1, writes, now - 3)
+    events = len(text.splitlines())
+    far, close = nouns.get(("63", 1), ["", "0", "0", 0.0, 0.0]), nouns.get(("63", 0), ["", "0", "0", 0.0, 0.0])
+    checks = [
+        ("it lands", craft.landed()),
+        ("the programs", programs == ["00", "63", "64", "65", "68"]),
+        ("no alarm", alarm == 0),
+        ("within 200 m of the site", abs(miss) < 200),
+        ("fewer than 50,000 events", events < 50000),
+        ("noun 63 far from the site, m/s and m", far[0] == "63" and abs(int(far[1]) - far[3]) < 8 and abs(int(far[2]) - far[4]) < 160),
+        ("noun 63 near it, 0.1 m/s and m", close[0] == "63" and abs(int(close[1]) / 10 - close[3]) < 8 and abs(int(close[2]) - close[4]) < 120),
+        ("the other integration, up", abs(other[0] - up) < 0.08),
+        ("the other integration, forward", abs(other[1] - forward) < 0.08),
+        ("the other integration, tilt", abs(other[2] - tilt) < 0.15),
+        ("agc repeats it", log[9:] == [f"{w.cycle} {w.channel:03o} {w.value:05o}" for w in writes] and log[0] == "PROG 68"),
+    ]
+    line = (
+        f"orbit {number} {start[0]:6.0f} {start[1]:7.0f} {start[2]:7.1f} {start[3]:5.1f}: {now:5.0f} s, {up:+.2f} {forward:+.2f} {tilt:+.2f},"
+        f" {miss:+.0f} m, fuel {craft.fuel():.0f}, {events} events; other {other[0] - up:+.3f} {other[1] - forward:+.3f} {other[2] - tilt:+.3f}"
+    )
+    return line, [(f"orbit {number}: {what}", right) for what, right in checks]
+
+
+def try_orbit(flights):
+    """Landings from orbit: P63 from 500 km on."""
+    for line, checks in flights.get():
+        print(line)
+        for what, right in checks:
+            judge(what, True, right)
+
+
+def far_machine(way, height, forward, up, degrees, mass):
+    """A machine with a state in the units of an orbit, in which P63 has begun, at its next SERVICER."""
+    machine = Machine()
+    machine.go(40000)
+    for name, value in (("XN", -way / 32), ("ZN", height / 32), ("VX", 2 * forward), ("VZ", 2 * up), ("MASS", mass)):
+        machine.put_both(name, value)
+    machine.put("ORBNAV", 2)
+    machine.poke(0, example.CDUY, round(degrees * example.DEGREE) % 32768)
+    machine.press("VERB 3 7 ENTR 6 3 ENTR", 0.1)
+    machine.seconds(0.5)
+    return machine
+
+
+def try_far_guidance():
+    """P63 far from the site, beside a row worked by hand: 400 km, 13,000 m, 1500 m/s, -15 m/s, 14,000 kg.
+
+    Time to go to 12.8 km and 190 m/s: 2 * 387,200/1690 = 458.22 s. Backward (1500 - 190)/458.22 = 2.8589. Up
+    6 * (3500 - 13000)/458.22^2 + (4 * 15 + 2 * 45)/458.22 = -0.27147 + 0.32735 = 0.0559. Gravity 1.62 (1737.4/1750.4)^2 = 1.5960,
+    less 1500^2/1,750,400 = 1.2854: 0.3106. With gravity 0.3665; the root of 8.1733 + 0.1343 is 2.8823, the angle whose tangent
+    is 0.3665/2.8589 is 7.31 degrees, and 14,000 kg times 2.8823 are 40,352 N."""
+    with far_machine(400000, 13000, 1500, -15, -82, 14000) as machine:
+        panel = machine.panel()
+        judge("before PRO: noun 61", ("63", "61", "+00000", "-04000", "+14000"), tuple(panel[name] for name in ("PROG", "NOUN", "R1", "R2", "R3")))
+        judge("coarse pulses", 2, machine.channel(example.STAGING) & 2)
+        machine.pro(True)
+        machine.until(PLACES["SERVICER"])
+        machine.put("DELT", 1)  # a hundredth of a second: 2 of 256 parts
+        machine.until_write(example.THROTTLE)
+        machine.step()
+        near("time to go", 458.22, machine.word("ORBTGO") / 16, 0.2)
+        near("forward", 2.8589, machine.word("AX") / 1024, 0.004)
+        near("up with gravity", 0.3665, machine.word("GZ") / 1024, 0.006)
+        near("tilt", -82.69, machine.word("THETAD") / example.DEGREE, 0.2)
+        near("thrust", 40352, 4 * machine.word("FCMD"), 80)
+        near("way", 400000 - 1500 * 2 / 256, -32 * machine.both("XN"), 0.1)
+        machine.pro(False)
+        machine.seconds(0.6)
+        panel = machine.panel()
+        # the speed rounded down, 0.01 s of gravity, 4582 tenths of a second
+        judge("noun 63", ("63", "63"), (panel["PROG"], panel["NOUN"]))
+        near("noun 63: speed, m/s", 1500, int(panel["R1"]), 1)
+        near("noun 63: rate, 0.1 m/s", -150, int(panel["R2"]), 3)
+        near("noun 63: altitude, m", 13000, int(panel["R3"]), 20)
+        for keys, wait in (("VERB 3 7 ENTR 6 6 ENTR", 0.4), ("RSET VERB 0 6 NOUN 6 4 ENTR", 0.4)):
+            machine.press(keys, 0.1)
+            machine.seconds(wait)
+            judge(f"far from the site {keys} is wrong", ("63", True), (machine.panel()["PROG"], "OPR ERR" in machine.panel()["LAMPS"]))
+        machine.press("RSET VERB 1 6 NOUN 6 3 ENTR VERB 3 7 ENTR 7 0 ENTR", 0.1)
+        machine.seconds(1.2)
+        judge("P70 ends the crew's monitor of noun 63", ("70", "06", "94"), tuple(machine.panel()[name] for name in ("PROG", "VERB", "NOUN")))
+        machine.press("VERB 0 6 NOUN 6 3 ENTR", 0.1)
+        machine.seconds(0.4)
+        judge("noun 63 is none in an abort", True, "OPR ERR" in machine.panel()["LAMPS"])
+    for what, keys, state in (
+        ("P64 with a load for P63", "VERB 3 7 ENTR 6 4 ENTR", (400000, 13000, 1500, -15, -82, 14000)),
+        ("P63 from 17 km", "RSET", (400000, 17000, 1500, -15, -82, 14000)),
+        ("P63 with 16,000 kg", "RSET", (400000, 13000, 1500, -15, -82, 16000)),
+    ):
+        with far_machine(*state) as machine:
+            machine.press("VERB 3 4 ENTR", 0.1) if "P64" in what else None
+            machine.press(keys, 0.1)
+            machine.seconds(0.5)
+            judge(f"{what}: a bad load", ("00", 0o3005), (machine.panel()["PROG"], machine.word("FAILREG", 2)))
+
+
+def try_near_units():
+    """Eight seconds before its point P63 comes into the units of a landing; coarse pulses that are on their way count. From 14 km, 3800 m, 210 m/s and
+    -45 m/s the time to go is 2 * 1200/400 = 6 s. Five pulses of 0.468 m/s back and three up leave 207.66 and -43.596 m/s."""
+    with far_machine(14000, 3800, 210, -45, -64, 8800) as machine:
+        machine.pro(True)
+        machine.until(PLACES["SERVICER"])
+        machine.put("DELT", 1)
+        machine.poke(0, example.PIPAZ, 0o77777 - 5)
+        machine.poke(0, example.PIPAX, 3)
+        machine.until_write(example.STAGING)
+        machine.seconds(0.01)
+        judge("the units of a landing, fine pulses", (0, 0), (machine.word("ORBNAV"), machine.channel(example.STAGING) & 2))
+        near("way", 14000 - 210 * 2 / 256, -machine.both("XN"), 0.1)
+        near("forward", 207.66, machine.both("VX") / 64, 0.03)
+        near("altitude", 3800 - 45 * 2 / 256, machine.both("ZN"), 0.1)
+        near("rate", -43.596 - 1.595 * 2 / 256, machine.both("VZ") / 64, 0.03)
+    # too fast: 300 m/s at 13.5 km
+    with far_machine(13500, 3800, 300, -45, -64, 8800) as machine:
+        machine.press("VERB 1 6 NOUN 6 3 ENTR", 0.05)
+        machine.pro(True)
+        machine.until(PLACES["SERVICER"])
+        machine.put("DELT", 1)
+        machine.seconds(0.9)
+        judge("too fast for the site: P70, noun 94, alarm 3003", ("70", "94", 0o3003), (machine.panel()["PROG"], machine.panel()["NOUN"], machine.word("FAILREG")))
+
+
+def stormy_orbit(seed):
+    """A landing from orbit with an alarm 1202 or 1201 every 0.7 seconds or so; how it ends."""
+    chance = random.Random(7000 + seed)
+    craft = craft_at(list(example.IN_ORBIT.values()), seed)
+    due = [6.0]
+
+    def disturb(machine, now):
+        if now >= due[0]:
+            due[0] = now + chance.uniform(0.4, 1.0)
+            if chance.random() < 0.5:
+                for core in range(1, 8):
+                    machine.put("PRIORITY", -0o1000, 12 * core)
+            else:
+                for area in range(1, 6):
+                    machine.put(f"VAC{area}USE", 0)
+
+    with Machine() as machine:
+        for _ in example.fly(machine, craft, example.BRAKING, disturb=disturb):
+            pass
+        alarms = {machine.word("FAILREG", n) for n in range(3)}
+        return seed, craft.landed(), machine.panel()["PROG"], alarms <= {0o1201, 0o1202} and 0 not in alarms
+
+
+def try_stormy_orbit(flights):
+    for seed, *came in flights.get():
+        judge(f"from orbit with 1201 and 1202, {seed}", [True, "68", True], came)
+
+
 ABORTS = [
     # what it is, the start, the program of the flight and of the abort, the second of its key, and a height in m below which it
     # comes instead
@@ -705,6 +902,9 @@ ABORTS = [
     ("before high gate, ascent stage", (3900.0, 15000.0, 200.0, 50.0), 63, 71, 12.0, 0),
     ("as fast down as the range allows", (2000.0, 4000.0, 180.0, 70.0), 64, 70, 3.5, 0),
     ("backward", (30.0, 0.0, -15.0, 0.0), 64, 70, 3.5, 0),
+    ("far from the site", (15000.0, 500000.0, 1692.0, 0.0), 63, 70, 300.0, 0),
+    ("far from the site, ascent stage", (15000.0, 500000.0, 1692.0, 0.0), 63, 71, 430.0, 0),
+    ("as P63 begins", (15000.0, 500000.0, 1692.0, 0.0), 63, 70, 3.5, 0),
 ]
 
 
@@ -725,7 +925,7 @@ def kepler(height, forward, up):
 def aborted(number, disturb=None, ascent_fuel=example.ASCENT_FUEL):
     """Flies an abort. Returns the craft, what is shown in the end, alarms, the writes, the script, the last cycle and second."""
     _, start, program, by, second, low = ABORTS[number]
-    craft = example.Craft(*start, seed=number + 1)
+    craft = craft_at(start, number + 1)
     craft.ascent_fuel = ascent_fuel
     keys = dict(example.BRAKING if program == 63 else example.APPROACH)
     keys.update({} if low else typed_at(second, by))
@@ -762,17 +962,17 @@ def abort_flight(number):
     checks = [
         ("it is in orbit", craft.in_orbit() and not craft.touched),
         ("the perilune is above 10 km", low > 10),
-        ("the apolune is below 110 km", low < high < 110),
+        ("the apolune is below 120 km", low < high < 120),
         ("program and noun", shown[0] in ("70", "71") and shown[1:3] == ["06", "44"]),
         ("no alarm", alarms == [0, 0, 0]),
         ("the DSKY's apolune", abs(registers[0] - high) < 8),
         ("the DSKY's perilune", abs(registers[1] - low) < 1.5),
         ("the DSKY's speed", abs(registers[2] - craft.forward) < 2.5),
         ("the words", example.orbit_in_words(craft) == f"Aborted: orbit of {high:.0f} by {low:.0f} km"),
-        ("the other integration, up", abs(other[0] - craft.up) < 0.12),
-        ("the other integration, forward", abs(other[1] - craft.forward) < 0.12),
+        ("the other integration, up", abs(other[0] - craft.up) < 0.08),
+        ("the other integration, forward", abs(other[1] - craft.forward) < 0.08),
         ("the other integration, tilt", abs(other[2] - math.degrees(craft.tilt)) < 0.15),
-        ("the other integration, height", abs(other[3] - craft.height) < 30),
+        ("the other integration, height", abs(other[3] - craft.height) < 0.05 * now),
         ("events", len(text.splitlines()) < 50000),
         ("agc repeats it", log[9:] == [f"{w.cycle} {w.channel:03o} {w.value:05o}" for w in writes] and log[0] == f"PROG {shown[0]}"),
     ]
@@ -1202,6 +1402,9 @@ WRONG = [
     (["--script", f"{folder}/alarm/vac"], "on the ground: -", ": within the limits", "program 68, alarm 01201"),
     (["--script", f"{folder}/alarm/waitlist"], "on the ground: -", ": within the limits", "program 68, alarm 01203"),
     (["--loaded-mass", "0"], "not on the ground", "", "program 00, alarm 03005"),
+    (["--orbit", "--fault", "engine:100:60"], "Aborted: orbit of ", " km", "program 71, alarm 03003"),
+    # a long flight that uses up its fuel, and still has room for an orbit in its script
+    ("--height 1516.132 --way 15000 --forward -20 --down 51.847 --seed 10072".split(), "Aborted: orbit of ", " km", "program 71, alarm 03004"),
     (["--loaded-mass", "6890"], "Aborted: orbit of ", " km", "program 71, alarm 03004"),
 ]
 
@@ -1454,6 +1657,8 @@ def main():
         flights = wanted("try_flights") and pool.map_async(flight, range(FLIGHTS), 1)
         wrong = wanted("try_wrong_flights") and pool.map_async(wrong_flight, [words for words, *_ in WRONG], 1)
         braking = wanted("try_braking") and pool.map_async(braked, range(5), 1)
+        orbits = wanted("try_orbit") and pool.map_async(descended, range(ORBITS), 1)
+        orbit_storms = wanted("try_stormy_orbit") and pool.map_async(stormy_orbit, range(1, 3), 1)
         aborts = wanted("try_aborts") and pool.map_async(abort_flight, range(len(ABORTS)), 1)
         storms = wanted("try_stormy_aborts") and pool.map_async(stormy, (0, 2, 7), 1)
         forcing = wanted("try_forced") and pool.map_async(forced, [6 * (n // 2) + n % 2 for n in range(FORCED)], 1)
@@ -1471,7 +1676,12 @@ def main():
             (try_redesignation,),
             (try_hand_controller,),
             (try_rate_switch,),
+            (try_fast_switch,),
             (try_braking, braking),
+            (try_orbit, orbits),
+            (try_far_guidance,),
+            (try_near_units,),
+            (try_stormy_orbit, orbit_storms),
             (try_aborts, aborts),
             (try_stormy_aborts, storms),
             (try_abort_keys,),
