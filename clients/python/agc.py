@@ -10,6 +10,8 @@
         print(agc.panel()["NOUN"], agc.cell("0101"))
         print(agc.script())
 
+`sample` runs `agc-study sample`: what a program computes, over time, with units.
+
 This file stands over the standard library alone. A console is one process, `agc-console ROPE SCRIPT`, to which each
 call says one command and whose answer it reads to its last line. Cycles are machine cycles, 85,333 a second. Words,
 channels and addresses are Python's integers here (0o54171); a place may be the console's own text, too ("E3,1400").
@@ -29,16 +31,19 @@ import subprocess
 import tempfile
 from collections import deque
 from types import TracebackType
-from typing import IO, Callable, Deque, Dict, Iterator, List, NamedTuple, Optional, Sequence, Tuple, Type, Union
+from typing import IO, Any, Callable, Deque, Dict, FrozenSet, Iterator, List, NamedTuple, Optional, Sequence, Tuple, Type, Union
 
 __all__ = [
     "Answer", "Breakpoint", "Came", "Console", "Ended", "Error", "Hit", "Location", "NotSaved", "Number", "Refused", "Registers",
-    "Where", "Write",
+    "Row", "Samples", "Where", "Write", "sample",
 ]
 
 __version__ = "1.0.0"
 
 Path = Union[str, "os.PathLike[str]"]
+
+CONSOLE, STUDY = "agc-console", "agc-study"
+"""The programs."""
 
 EVENTS = frozenset(("key", "pro", "input", "pulse", "raise", "poke"))
 """The commands that inject an event."""
@@ -46,6 +51,9 @@ EVENTS = frozenset(("key", "pro", "input", "pulse", "raise", "poke"))
 Place = Union[int, str]
 """An address alone, as 0o4100 or 0o100, or a place as docs/CONSOLE.md names it: "4100", "12,2000" or "E3,1400"; with names
 also "LOOP", or some words beyond or before it, "LOOP+3"."""
+
+Row = Dict[str, float]
+"""A row of samples: the cycle and the seconds, and each quantity by the name of its column. Cycles and bits are integers."""
 
 LAST_CYCLE = 1_000_000_000_000
 """The last cycle of all: a machine without a limit stops there."""
@@ -83,7 +91,8 @@ class Refused(Error):
 
 class Ended(Error):
     """The console has ended, or never began: there is no such program, its rope, its script or its limit is refused, it
-    is closed, or a call was broken off before its answer was whole."""
+    is closed, or a call was broken off before its answer was whole. Of `sample`: the program refused something, or ended before
+    the last row."""
 
     def __init__(self, message: str, status: Optional[int]) -> None:
         super().__init__(message)
@@ -469,10 +478,7 @@ class Console:
             self._lines.extend(whole.decode().split("\n"))
 
     def _ended(self) -> Ended:
-        status = self._process.wait()
-        self._errors.seek(0)
-        message = self._errors.read().decode(errors="replace").strip()
-        return Ended(message or f"the console ended with status {status}", status)
+        return _ended(self._errors, self._process.wait(), "the console")
 
     # running, and going back
 
@@ -489,9 +495,10 @@ class Console:
         `agc-study trace` prints them."""
         return self.say(f"step {boundaries}").lines
 
-    def until(self, place: Place, within: Optional[int] = None) -> Came:
-        """On until the order at a place is in hand; 1,000,000 cycles at most, or as many as are named."""
-        return self._until(_place(place), within)
+    def until(self, place: Place, within: Optional[int] = None, *, condition: Optional[str] = None) -> Came:
+        """Runs until the order at a place is in hand, with a condition such as "COUNT < 5" only while that holds; 1,000,000
+        cycles at most, or as many as are named."""
+        return self._until(_order(place, condition), within)
 
     def until_write(self, channel: int, within: Optional[int] = None) -> Came:
         """On until the next write to a channel, 5 to 0o777. Another channel is refused."""
@@ -508,9 +515,10 @@ class Console:
 
     # breakpoints
 
-    def break_at(self, place: Place) -> Breakpoint:
-        """Sets a breakpoint at the order at a place: `continue_` stops before that order."""
-        return self._break(_place(place))
+    def break_at(self, place: Place, *, condition: Optional[str] = None) -> Breakpoint:
+        """Sets a breakpoint at the order at a place: `continue_` stops before that order. A condition is a cell, one of <, >,
+        = and !=, and a word, octal or decimal with its sign, as "COUNT < 5" or "0100 = -3"; it has to hold then."""
+        return self._break(_order(place, condition))
 
     def break_write(self, channel: int, word: Optional[int] = None) -> Breakpoint:
         """Sets a breakpoint at a write to a channel, 5 to 0o777, of this word if one is named: `continue_` stops after it."""
@@ -576,10 +584,11 @@ class Console:
         it returns their lines, as in `script`."""
         return self.say(f"back list {cycle}" if dropped else f"back {cycle}").lines
 
-    def back_until(self, place: Place) -> bool:
-        """Goes back to the last time that the order at a place was in hand. The methods `back_until_..` and `back_step` drop
-        the events injected after that cycle, and return whether there was one before now; if not, they change nothing."""
-        return self._back(f"until {_place(place)}")
+    def back_until(self, place: Place, *, condition: Optional[str] = None) -> bool:
+        """Goes back to the last time that the order at a place was in hand, with a condition as for `break_at` while that held.
+        The methods `back_until_..` and `back_step` drop the events injected after that cycle, and return whether there was one
+        before now; if not, they change nothing."""
+        return self._back(f"until {_order(place, condition)}")
 
     def back_until_write(self, channel: int, word: Optional[int] = None) -> bool:
         """Goes back to before the last write to a channel, 5 to 0o777, of this word if one is named."""
@@ -764,6 +773,13 @@ def _message_file() -> IO[bytes]:
         raise Ended(f"there is no file for the console's messages: {error.strerror or error}", None) from None
 
 
+def _ended(errors: IO[bytes], status: int, program: str) -> Ended:
+    """The exception for a program that has ended, with what it said on standard error."""
+    errors.seek(0)
+    message = errors.read().decode(errors="replace").strip()
+    return Ended(message or f"{program} ended with status {status}", status)
+
+
 def _event_of(line: str) -> Event:
     """An event from a line of the script."""
     return Event(int(line.split(" ", 1)[0]), line)
@@ -786,6 +802,11 @@ def _refused(reason: str) -> Refused:
 def _place(place: Place) -> str:
     """A place as the console reads it."""
     return f"{place:04o}" if isinstance(place, int) else place
+
+
+def _order(place: Place, condition: Optional[str]) -> str:
+    """The place of an order, with a condition if one is named."""
+    return _place(place) if condition is None else f"{_place(place)} if {condition}"
 
 
 def _with_word(command: str, word: Optional[int]) -> str:
@@ -814,28 +835,119 @@ def _writes(lines: List[str]) -> List[Write]:
     return found
 
 
-def _check_version(program: str) -> None:
-    """Checks that a console found beside this client or on the path has the client's version."""
+def _check_version(program: str, name: str) -> None:
+    """Checks that a program found beside this client or on the path has the client's version."""
     try:
         done = subprocess.run([program, "--version"], stdin=subprocess.DEVNULL, stdout=subprocess.PIPE, stderr=subprocess.PIPE)
     except OSError as error:
         raise Ended(f"{program}: {error.strerror}", None) from None
     answer = done.stdout.decode(errors="replace").strip()
-    if answer != f"agc-console {__version__}":
+    if answer != f"{name} {__version__}":
         found = answer or done.stderr.decode(errors="replace").strip() or f"status {done.returncode}"
-        raise Ended(f"{program} is not the console of this client, version {__version__}: {found}", done.returncode)
+        what = "the console" if name == CONSOLE else f"the {name}"
+        raise Ended(f"{program} is not {what} of this client, version {__version__}: {found}", done.returncode)
 
 
-def _program(named: Union[None, Path, Sequence[str]]) -> List[str]:
-    """The words that start the program."""
+def _program(named: Union[None, Path, Sequence[str]], name: str = CONSOLE) -> List[str]:
+    """The words that start a program."""
     if named is None:
         here = os.path.dirname(os.path.realpath(__file__))
-        beside = os.path.join(here, "..", "..", "agc-console")
-        found = beside if os.access(beside, os.X_OK) else shutil.which("agc-console")
+        beside = os.path.join(here, "..", "..", name)
+        found = beside if os.access(beside, os.X_OK) else shutil.which(name)
         if found is None:
-            raise Ended("agc-console is neither in the folder of this client nor on the path", None)
-        _check_version(found)
+            raise Ended(f"{name} is neither in the folder of this client nor on the path", None)
+        _check_version(found, name)
         return [found]
     if isinstance(named, (str, os.PathLike)):
         return [os.fspath(named)]
     return list(named)
+
+
+class Samples:
+    """The rows of `agc-study sample`. Each loop over them runs the program anew; one that is broken off ends it."""
+
+    def __init__(self, words: List[str], quantities: str) -> None:
+        """The words start the program; `quantities` is the file that says what it prints."""
+        self.words = words
+        self._quantities = quantities
+
+    def __iter__(self) -> Iterator[Row]:
+        bits = self._columns_of_bits()
+        with self._running() as (names, output):
+            kinds = [int if name in bits else float for name in names]
+            for line in output:
+                yield {name: kind(text) for name, kind, text in zip(names, kinds, line.split(","))}
+
+    def frame(self) -> Any:
+        """Returns the rows as a frame of pandas: a column each, in the order of the file."""
+        try:
+            import pandas
+        except ImportError:
+            raise Error("a frame needs pandas, which is not there: install it (Debian: python3-pandas), or loop over the rows") from None
+        bits = self._columns_of_bits()
+        with self._running() as (names, output):
+            kinds = {name: "int64" if name in bits else "float64" for name in names}
+            try:
+                return pandas.read_csv(output, header=None, names=names, dtype=kinds, float_precision="round_trip")
+            except pandas.errors.EmptyDataError:
+                return pandas.DataFrame({name: pandas.Series(dtype=kind) for name, kind in kinds.items()})
+
+    def _columns_of_bits(self) -> FrozenSet[str]:
+        """The columns that have integers."""
+        try:
+            with open(self._quantities, encoding="ascii", errors="replace") as file:
+                lines = [line.partition("#")[0].split() for line in file]
+        except OSError:
+            return frozenset()  # the program says what is wrong
+        return frozenset(["cycle", *(fields[0] for fields in lines if fields[2:3] == ["bits"])])
+
+    @contextlib.contextmanager
+    def _running(self) -> Iterator[Tuple[List[str], IO[str]]]:
+        """Runs the program: the names of the columns, and the lines after these. It must have ended well at their end."""
+        with _message_file() as errors:
+            try:
+                process = subprocess.Popen(self.words, stdin=subprocess.DEVNULL, stdout=subprocess.PIPE, stderr=errors)
+            except OSError as error:
+                raise Ended(f"{self.words[0]}: {error.strerror}", None) from None
+            assert process.stdout is not None
+            try:
+                with io.TextIOWrapper(process.stdout, encoding="ascii", newline="\n") as output:
+                    heading = output.readline()
+                    if heading:
+                        yield heading.rstrip("\n").split(","), output
+                if process.wait() != 0 or not heading:
+                    raise _ended(errors, process.returncode, "the program")
+            finally:
+                process.kill()
+                process.wait()
+
+
+def sample(
+    rope: Path,
+    script: Path,
+    limit: int,
+    quantities: Path,
+    *,
+    every: Optional[int] = None,
+    at: Optional[Place] = None,
+    changes: bool = False,
+    names: Optional[Path] = None,
+    options: Sequence[str] = (),
+    program: Union[None, Path, Sequence[str]] = None,
+) -> Samples:
+    """What a program computes over time: the rows of `agc-study sample`, of which `frame()` is a frame of pandas.
+
+        for row in sample("examples/descent/rope", "landing", 15_000_000, "examples/descent/quantities",
+                          every=85333, names="examples/descent/names"):
+            print(row["seconds"], row["altitude"])
+
+    A row comes after each so many cycles, `at` each arrival of the order at a place, or with `changes` after each change
+    of a quantity. `options` are other words of the command line, as ("--from", "100000"). The program is `agc-study` beside
+    the console of this client, or on the path; `program` names another one. What it refuses is an `Ended`."""
+    chosen = [*([] if every is None else [f"--every={every}"]), *([] if at is None else [f"--at={_place(at)}"]), *["--changes"] * changes]
+    if len(chosen) != 1:
+        raise TypeError("one of every, at and changes says which rows there are")
+    words = [*_program(program, STUDY), "sample", *chosen, f"--limit={limit}", f"--quantities={os.fspath(quantities)}"]
+    if names is not None:
+        words.append(f"--names={os.fspath(names)}")
+    return Samples([*words, *options, "--", os.fspath(rope), os.fspath(script)], os.fspath(quantities))

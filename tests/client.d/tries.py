@@ -277,6 +277,26 @@ def try_breakpoints():
         judge("no such interrupt", "BadInterrupt", refused(agc.break_interrupt, "T4")[0])
 
 
+def try_conditions():
+    """orders with conditions, forwards and backwards, in the countdown"""
+    with a_countdown() as agc:
+        last = Breakpoint(1, "order 02,4066 if 0100 < 00002")
+        key = Breakpoint(2, "order 02,4104 if 0100 = 77777")
+        judge("a condition on a breakpoint", last, agc.break_at("TICK", condition="LEFT < 2"))
+        judge("with a decimal word", key, agc.break_at(0o4104, condition="LEFT = -0"))
+        agc.quiet()
+        judge("the turn at 1", (Hit(last, []), 255792), (agc.continue_(), agc.cycle))
+        judge("the key at -0", (Hit(key, []), 300004), (agc.continue_(), agc.cycle))
+        judge("back to the turn at 2", (True, 170459), (agc.back_until("TICK", condition="LEFT = 2"), agc.cycle))
+        judge("there is no other", (False, 170459), (agc.back_until("TICK", condition="LEFT = 2"), agc.cycle))
+        came = agc.until("TICK", 100000, condition="LEFT != 2")
+        judge("forwards again", (Came(True, []), 255792), (came, agc.cycle))
+        judge("what does not come", Came(False, []), agc.until("TICK", 10, condition="LEFT > +3"))
+        judge("no such sign", "BadRelation", refused(lambda text: agc.break_at("TICK", condition=text), "LEFT ~ 2")[0])
+        judge("a word too large", "BadWord", refused(lambda text: agc.break_at("TICK", condition=text), "LEFT < 100000")[0])
+        judge("both are left", [last, key], agc.breaks())
+
+
 def try_panel_breakpoints():
     """breakpoints at the panel, in the countdown"""
     with a_countdown() as agc:
@@ -633,7 +653,7 @@ def try_versions():
 
 depends_on_time()
 for each in (
-    try_versions, try_keys, try_events, try_deferred, try_until, try_writes, try_names, try_breakpoints,
+    try_versions, try_keys, try_events, try_deferred, try_until, try_writes, try_names, try_breakpoints, try_conditions,
     try_panel_breakpoints, try_backwards, try_ahead, try_banks, try_numbers, try_quiet, try_signals, try_odd_words, try_children, try_left_scripts, try_save, try_full_disk,
     try_deaths, try_rope_changes, try_faults,
 ):

@@ -75,6 +75,26 @@ def corrected(word):
     return word >> 1 & 0o40000 | word & 0o37777
 
 
+def compared(text):
+    """The word to compare with that an octal number or a decimal one with its sign writes."""
+    if text[0] not in "+-":
+        return int(text, 8)
+    return 0o77777 - int(text[1:]) if text[0] == "-" else int(text[1:])
+
+
+def signed(word):
+    """The number that a word of fifteen bits stands for; both zeros are 0."""
+    return word - 0o77777 if word & 0o40000 else word
+
+
+def holds(word, sign, text):
+    """Whether a comparison of a word holds: by its bits, or by the numbers."""
+    other = compared(text)
+    if sign in ("<", ">"):
+        return signed(word) < signed(other) if sign == "<" else signed(word) > signed(other)
+    return (word == other) == (sign == "=")
+
+
 class Line(NamedTuple):
     """A line of a trace: a boundary, or the stop."""
 
@@ -204,11 +224,12 @@ class Reference:
         return line
 
     def hits(self, what, at):
-        """Whether the boundary of a line hits a breakpoint: an order or an interrupt by what it is, a write by what it
-        writes, a cell or the panel by its change, a line of the panel if it is shown after it and was not before."""
+        """Whether the boundary of a line hits a breakpoint: an order by its place and what a cell holds before it, an
+        interrupt by what it is, a write by what it writes, a cell or the panel by its change, a line of the panel if it is shown after it and was not before."""
         trace, kind = self.trace, what[0]
         if kind == "order":
-            return trace.lines[at].place == whole_place(what[1])
+            comes = trace.lines[at].place == whole_place(what[1])
+            return comes and (not what[2:] or holds(trace.cell(what[3], at), *what[4:]))
         if kind == "interrupt":
             return trace.lines[at].name.split()[: len(what)] == what
         if kind == "write":
@@ -258,7 +279,8 @@ class Reference:
     def text_of(self, what):
         """A breakpoint as the console prints it."""
         if what[0] == "order":
-            return f"order {place_text(whole_place(what[1]))}"
+            order = f"order {place_text(whole_place(what[1]))}"
+            return f"{order} if {place_text(whole_place(what[3]))} {what[4]} {compared(what[5]):05o}" if what[2:] else order
         if what[0] == "cell":
             return f"cell {place_text(whole_place(what[1]))}"
         if what[0] == "write":
@@ -276,7 +298,7 @@ class Reference:
             self.go(self.cycle + int(rest[0]))
             return self.writes
         if first == "until":
-            what = (rest[:-2] if rest[0] in ("write", "cell") else ["order", rest[0]])
+            what = rest[:-2] if rest[0] in ("write", "cell") else ["order", *rest[:-2]]
             came = self.run({1: what}, within)
             return [*self.writes, "came yes" if came else "came no"]
         if first == "continue":
@@ -401,6 +423,8 @@ class Choices:
         self.lamps = sorted({lamp for panel in panels for lamp in LAMPS if shows(panel, ["LAMPS", lamp])}) or LAMPS
         self.cells = [place for place in CELLS if len({trace.cell(place, at) for at in range(len(trace.lines))}) > 1] or CELLS
 
+        self.words = {place: sorted({trace.cell(place, at) for at in range(len(trace.lines))}) for place in CELLS}
+
     def mostly(self, seen, others):
         return self.dice.choice(seen if self.dice.random() < 0.8 else others)
 
@@ -409,6 +433,15 @@ class Choices:
 
     def a_cell(self):
         return self.mostly(self.cells, CELLS)
+
+    def an_order(self):
+        """A place, and as often as not a comparison that holds at some time, but not always."""
+        if self.dice.random() < 0.5:
+            return self.a_place()
+        cell = self.a_cell()
+        word = self.mostly(self.words[cell], [0, 1, 0o37777, 0o40000, 0o77776, 0o77777])
+        decimal = f"-{0o77777 - word}" if word & 0o40000 else f"+{word}"
+        return f"{self.a_place()} if {cell} {self.dice.choice(['<', '>', '=', '!='])} " + self.dice.choice([f"{word:o}", f"{word:05o}", decimal])
 
     def a_write(self):
         channel, word = self.mostly(self.writes, [(5, 0), (7, 1), (0o13, 0o40000)])
@@ -419,7 +452,7 @@ class Choices:
 
     def a_breakpoint(self):
         cell = f"cell {self.a_cell()}"
-        return self.dice.choice([self.a_place(), self.a_write(), cell, self.an_interrupt()])
+        return self.dice.choice([self.an_order(), self.an_order(), self.a_write(), cell, self.an_interrupt()])
 
     def a_panel(self):
         """A change of the panel, or a line that it shows at some time."""
@@ -436,7 +469,7 @@ class Choices:
         within = f"within {self.dice.choice([0, 1, 10, 100, 800, 800])}"
         commands = [
             f"go {self.dice.choice([0, 1, 2, 13, 200, 853])}", "step", f"step {self.dice.randrange(30)}",
-            f"until {self.a_place()} {within}", f"until {self.a_write().split(' ')[1]} {within}", f"until cell {self.a_cell()} {within}",
+            f"until {self.an_order()} {within}", f"until {self.a_write().split(' ')[1]} {within}", f"until cell {self.a_cell()} {within}",
         ]
         commands[4] = f"until write {commands[4][len('until ') :]}"
         return self.dice.choice(commands) if self.dice.random() < 0.5 else f"continue {within}"

@@ -89,7 +89,8 @@ def an_event(dice):
 
 
 def a_place(dice):
-    return dice.choice(["4000", "4054", "4020", "4100", "100", "10,2000", "E3,1400", "0027"])
+    place = dice.choice(["4000", "4054", "4020", "4100", "100", "10,2000", "E3,1400", "0027"])
+    return place if dice.random() < 0.7 else f"{place} if {a_cell(dice)} {dice.choice(['<', '>', '=', '!='])} {dice.choice(['5', '-3', '77777'])}"
 
 
 def a_cell(dice):

@@ -8,7 +8,7 @@ use Rattle.agc_machine.specs.declared.answer.Stop.{Stop}
 use Rattle.agc_listing.specs.Cell.{cell_place}
 use Rattle.agc_listing.specs.Place.{place_text}
 use Rattle.agc_store.specs.Memory.{Memory}
-use Rattle.agc_session.specs.Condition.{word_at}
+use Rattle.agc_session.specs.Comparison.{word_at}
 use Rattle.agc_trace.specs.OperandLine.{signed_text}
 use Rattle.agc_word.specs.Number.{Number}
 use Rattle.agc_word.specs.Octal.{octal_digits, word_digits}

@@ -21,12 +21,13 @@ use Rattle.agc_store.specs.Places.{erasable_cells}
 use Rattle.agc_listing.specs.Line.{is_comma}
 use Rattle.agc_listing.specs.Location.{IsWithin}
 use Rattle.agc_word.specs.Channels.{IsIoChannel, last_io_channel}
+use Rattle.agc_repl.specs.Comparison.{after_order, only_order, order_in}
 use Rattle.agc_repl.specs.FileName.{name_of}
 use Rattle.agc_repl.specs.Name.{name_named}
 use Rattle.agc_repl.specs.Number.{interrupt_in, word_in}
 use Rattle.agc_repl.specs.Number.{channel_in, cycles_in, spec_in, written_channel_in}
 use Rattle.agc_panel.specs.PanelLine.{line_in}
-use Rattle.agc_repl.specs.Place.{cell_in, cells_after, place_in}
+use Rattle.agc_repl.specs.Place.{cell_in, cells_after}
 use Rattle.agc_repl.specs.Words.{alone, and_then, only_word}
 use Rattle.agc_repl.specs.declared.command.Command.{Command}
 use Rattle.agc_repl.specs.declared.command.Command.TheVariants as command
@@ -34,6 +35,7 @@ use Rattle.agc_repl.specs.declared.fault.CommandFault.{CommandFault}
 use Rattle.agc_repl.specs.declared.fault.CommandFault.TheVariants as fault
 use Rattle.agc_repl.specs.declared.name.CommandName.{CommandName}
 use Rattle.agc_repl.specs.declared.name.CommandName.TheVariants as name
+use Rattle.agc_session.specs.Comparison.{IsComparisonInRange}
 use Rattle.agc_session.specs.Condition.{IsConditionInRange}
 use Rattle.agc_session.specs.declared.condition.Condition.{Condition}
 use Rattle.agc_session.specs.declared.condition.Condition.TheVariants as condition
@@ -83,13 +85,17 @@ until_cell names [] = Err (fault.Usage name.Until)
 until_cell names (place ∷ words) =
     and_then (cell_in names place) (λ cell. until_target (condition.Cell cell) words)
 
--- `until PLACE`, or one of the two before
+-- `until PLACE` and `until PLACE if CELL < WORD`
+abbrev pub until_place : Option (List Symbol) → List (List ℕ) → Result Command CommandFault
+until_place names words = and_then (order_in names name.Until words) (λ what. until_target what (after_order words))
+
+-- the same, or one of the two before
 unfoldable pub until_of : Option (List Symbol) → List (List ℕ) → Result Command CommandFault
 until_of names [] = Err (fault.Usage name.Until)
 until_of names (first ∷ words) =
     if bytes_eq first (codes "write") then until_write words
     else if bytes_eq first (codes "cell") then until_cell names words
-    else and_then (place_in names first) (λ place. until_target (condition.Order place) words)
+    else until_place names (first ∷ words)
 
 -- a breakpoint
 abbrev pub break_at : Condition → Command
@@ -121,11 +127,9 @@ break_interrupt words =
     and_then (and_then (only_word name.Break words) interrupt_in)
     (λ rupt. Ok (break_at (condition.Interrupt (Some rupt))))
 
--- `break PLACE`
+-- `break PLACE` and `break PLACE if CELL < WORD`
 abbrev pub break_place : Option (List Symbol) → List (List ℕ) → Result Command CommandFault
-break_place names words =
-    and_then (and_then (only_word name.Break words) (place_in names))
-    (λ place. Ok (break_at (condition.Order place)))
+break_place names words = and_then (only_order names name.Break words) (λ what. Ok (break_at what))
 
 -- `break panel` and `break panel TEXT`
 unfoldable pub break_panel : List (List ℕ) → Result Command CommandFault
@@ -133,7 +137,7 @@ break_panel [] = Ok (command.Break condition.Panel)
 break_panel (first ∷ words) =
     and_then (ok_or (line_in (first ∷ words)) fault.BadLine) (λ line. Ok (command.Break (condition.Shows line)))
 
--- `break PLACE`, or one of the four before
+-- the same, or one of the four before
 unfoldable pub break_of : Option (List Symbol) → List (List ℕ) → Result Command CommandFault
 break_of names [] = Err (fault.Usage name.Break)
 break_of names (first ∷ words) =
@@ -238,13 +242,11 @@ back_interrupt (first ∷ words) =
     and_then (and_then (only_word name.Back (first ∷ words)) interrupt_in)
     (λ rupt. Ok (last_hit (condition.Interrupt (Some rupt))))
 
--- `back until PLACE`
+-- `back until PLACE` and `back until PLACE if CELL < WORD`
 abbrev pub back_place : Option (List Symbol) → List (List ℕ) → Result Command CommandFault
-back_place names words =
-    and_then (and_then (only_word name.Back words) (place_in names))
-    (λ place. Ok (last_hit (condition.Order place)))
+back_place names words = and_then (only_order names name.Back words) (λ what. Ok (last_hit what))
 
--- `back until PLACE`, `back until panel`, or one of the three before
+-- the same, `back until panel`, or one of the three before
 unfoldable pub back_until : Option (List Symbol) → List (List ℕ) → Result Command CommandFault
 back_until names [] = Err (fault.Usage name.Back)
 back_until names (first ∷ words) =
@@ -370,6 +372,7 @@ IsChannelInRange None = Unit {0}
 
 unfoldable pub IsBreakpointInRange : Condition → Type 0
 IsBreakpointInRange (condition.Order place) = IsWithin place
+IsBreakpointInRange (condition.OrderIf place comparison) = IsWithin place × IsComparisonInRange comparison
 IsBreakpointInRange (condition.Write channel word) = IsChannelInRange channel
 IsBreakpointInRange (condition.Cell cell) = cell < erasable_cells
 IsBreakpointInRange (condition.Interrupt which) = Unit {0}

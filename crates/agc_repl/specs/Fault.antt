@@ -26,6 +26,8 @@ fault_name fault.NotErasable = codes "NotErasable"
 fault_name fault.BadChannel = codes "BadChannel"
 fault_name fault.NoWrites = codes "BadChannel"
 fault_name fault.BadWord = codes "BadWord"
+fault_name fault.BadRelation = codes "BadRelation"
+fault_name fault.BadCompared = codes "BadWord"
 fault_name fault.BadInterrupt = codes "BadInterrupt"
 fault_name fault.BadCount = codes "BadCount"
 fault_name fault.BadLine = codes "BadLine"
@@ -84,6 +86,9 @@ fault_advice fault.NotErasable =
 fault_advice fault.BadChannel = codes "a channel is octal, 0 to 777"
 fault_advice fault.NoWrites = codes "only channels 5 to 777 octal show writes"
 fault_advice fault.BadWord = codes "a word is octal, 0 to 77777"
+fault_advice fault.BadRelation = codes "a cell is compared by <, >, = or !=, with spaces around it. Example: break 4100 if 0100 < 5"
+fault_advice fault.BadCompared =
+    codes "a word to compare with is octal, 0 to 77777, or decimal with its sign, such as +12 or -3, up to 16383"
 fault_advice fault.BadInterrupt =
     codes "interrupts are T6RUPT, T5RUPT, T3RUPT, T4RUPT, KEYRUPT1, KEYRUPT2, UPRUPT, DOWNRUPT, RADARUPT and RUPT10"
 fault_advice fault.BadCount =

@@ -10,7 +10,7 @@ purpose_text name.Go = codes "runs N cycles, or to cycle C, 0 to 1000000000000, 
 purpose_text name.Step = codes "takes one boundary, or N, 0 to 1000000000000, decimal, with trace lines. Example: step 10"
 purpose_text name.Until =
     codes "runs on to it, for 1000000 cycles or N, decimal; PLACE and CCC, 5 to 777, are octal. Example: until write 10"
-purpose_text name.Break = codes "sets a breakpoint; PLACE, CCC, 5 to 777, and WORD, 0 to 77777, are octal. Example: break write 10 44017"
+purpose_text name.Break = codes "sets a breakpoint; PLACE, CCC, 5 to 777, and WORD, 0 to 77777, are octal; after if, >, = and != compare too, and WORD may be decimal with its sign. Example: break 4100 if 0100 < -3"
 purpose_text name.Breaks = codes "lists the breakpoints"
 purpose_text name.Delete = codes "deletes breakpoint N, from 1 on, decimal. Example: delete 2"
 purpose_text name.Continue = codes "runs on to the first breakpoint that is hit, for 1000000 cycles or N, decimal. Example: continue within 85333"

@@ -4,6 +4,7 @@ pub mod Words
 pub mod Meant
 pub mod Number
 pub mod Place
+pub mod Comparison
 pub mod FileName
 pub mod Command
 pub mod Help

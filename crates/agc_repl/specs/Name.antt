@@ -47,9 +47,9 @@ unfoldable pub usage_text : CommandName → List ℕ
 usage_text name.Go = codes "go N, or go to C"
 usage_text name.Step = codes "step, or step N"
 usage_text name.Until =
-    codes "until PLACE, write CCC or cell PLACE [within N]"
+    codes "until PLACE [if CELL < WORD], write CCC or cell PLACE [within N]"
 usage_text name.Break =
-    codes "break PLACE, write CCC [WORD], cell PLACE, interrupt NAME or panel [TEXT]"
+    codes "break PLACE [if CELL < WORD], write CCC [WORD], cell PLACE, interrupt NAME or panel [TEXT]"
 usage_text name.Breaks = codes "breaks"
 usage_text name.Delete = codes "delete N"
 usage_text name.Continue = codes "continue [within N]"
@@ -65,7 +65,7 @@ usage_text name.Print = codes "print PLACE, or print PLACE N"
 usage_text name.Channel = codes "channel CCC"
 usage_text name.Writes = codes "writes"
 usage_text name.Back =
-    codes "back [list] C, step [N], or until PLACE, write CCC [WORD], cell PLACE, interrupt [NAME] or panel"
+    codes "back [list] C, step [N], or until PLACE [if CELL < WORD], write CCC [WORD], cell PLACE, interrupt [NAME] or panel"
 usage_text name.Script = codes "script"
 usage_text name.Save = codes "save FILE"
 usage_text name.Help = codes "help"

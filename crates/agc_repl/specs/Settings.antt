@@ -9,6 +9,7 @@ use Rattle.agc_listing.specs.declared.location.Location.{Location}
 use Rattle.agc_listing.specs.declared.location.Location.TheVariants as location
 use Rattle.agc_processor.specs.Interrupt.{rupt_name}
 use Rattle.agc_repl.specs.Command.{IsBreakpointInRange}
+use Rattle.agc_repl.specs.Comparison.{comparison_text}
 use Rattle.agc_panel.specs.PanelLine.{line_text}
 use Rattle.agc_repl.specs.declared.settings.Numbered.{Numbered}
 use Rattle.agc_processor.specs.declared.interrupt.Rupt.{Rupt}
@@ -80,6 +81,8 @@ interrupt_text None = []
 -- what a numbered breakpoint is at
 unfoldable pub breakpoint_text : Condition → List ℕ
 breakpoint_text (condition.Order place) = codes "order " ++ location_text place
+breakpoint_text (condition.OrderIf place comparison) =
+    codes "order " ++ location_text place ++ comparison_text comparison
 breakpoint_text (condition.Write channel word) = codes "write" ++ channel_text channel ++ word_text word
 breakpoint_text (condition.Cell cell) = codes "cell " ++ place_text (cell_place cell)
 breakpoint_text (condition.Interrupt which) = codes "interrupt" ++ interrupt_text which

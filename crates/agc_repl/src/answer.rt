@@ -30,6 +30,7 @@ ghost use Rattle.agc_repl.specs.Run.{run_line, stop_line};
 ghost use Rattle.agc_trace.specs.OperandLine.{signed_text};
 ghost use Rattle.agc_store.specs.Places.{erasable_cells};
 
+use crate::comparison::push_comparison;
 use crate::fault::CommandFault;
 use crate::meant::name_meant;
 use crate::settings::Numbered;
@@ -290,6 +291,11 @@ fn push_breakpoint(text: &mut String, what: Condition) -> Result<(), AllocError>
         Condition::Order(place) => {
             text.push_str("order ")?;
             push_location(text, place)
+        }
+        Condition::OrderIf { place, comparison } => {
+            text.push_str("order ")?;
+            push_location(text, place)?;
+            push_comparison(text, comparison)
         }
         Condition::Write { channel, word } => {
             text.push_str("write")?;

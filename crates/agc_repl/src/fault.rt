@@ -35,6 +35,10 @@ pub enum CommandFault {
     NoWrites,
     /// Not a word: 1 to 5 octal digits.
     BadWord,
+    /// Not the sign of a comparison.
+    BadRelation,
+    /// Not a word to compare with: 1 to 5 octal digits, or a sign and 1 to 5 decimal digits, at most 16,383.
+    BadCompared,
     /// Not the name of an interrupt.
     BadInterrupt,
     /// Not 1 to 6 decimal digits, or 0, or past the end of erasable memory.
@@ -82,6 +86,8 @@ impl CommandFault {
             CommandFault::BadChannel => "BadChannel",
             CommandFault::NoWrites => "BadChannel",
             CommandFault::BadWord => "BadWord",
+            CommandFault::BadRelation => "BadRelation",
+            CommandFault::BadCompared => "BadWord",
             CommandFault::BadInterrupt => "BadInterrupt",
             CommandFault::BadCount => "BadCount",
             CommandFault::BadLine => "BadLine",
@@ -117,6 +123,10 @@ impl CommandFault {
             CommandFault::BadChannel => "a channel is octal, 0 to 777",
             CommandFault::NoWrites => "only channels 5 to 777 octal show writes",
             CommandFault::BadWord => "a word is octal, 0 to 77777",
+            CommandFault::BadRelation =>
+                "a cell is compared by <, >, = or !=, with spaces around it. Example: break 4100 if 0100 < 5",
+            CommandFault::BadCompared =>
+                "a word to compare with is octal, 0 to 77777, or decimal with its sign, such as +12 or -3, up to 16383",
             CommandFault::BadInterrupt =>
                 "interrupts are T6RUPT, T5RUPT, T3RUPT, T4RUPT, KEYRUPT1, KEYRUPT2, UPRUPT, DOWNRUPT, RADARUPT and RUPT10",
             CommandFault::BadCount =>

@@ -70,7 +70,7 @@ fn purpose(name: CommandName) -> &'static str
         CommandName::Until =>
             "runs on to it, for 1000000 cycles or N, decimal; PLACE and CCC, 5 to 777, are octal. Example: until write 10",
         CommandName::Break =>
-            "sets a breakpoint; PLACE, CCC, 5 to 777, and WORD, 0 to 77777, are octal. Example: break write 10 44017",
+            "sets a breakpoint; PLACE, CCC, 5 to 777, and WORD, 0 to 77777, are octal; after if, >, = and != compare too, and WORD may be decimal with its sign. Example: break 4100 if 0100 < -3",
         CommandName::Breaks => "lists the breakpoints",
         CommandName::Delete => "deletes breakpoint N, from 1 on, decimal. Example: delete 2",
         CommandName::Continue =>

@@ -5,6 +5,7 @@ mod ahead;
 mod answer;
 mod command;
 mod commands;
+mod comparison;
 mod conversation;
 mod edits;
 mod fault;

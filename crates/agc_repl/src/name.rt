@@ -109,9 +109,11 @@ impl CommandName {
         match self {
             CommandName::Go => "go N, or go to C",
             CommandName::Step => "step, or step N",
-            CommandName::Until => "until PLACE, write CCC or cell PLACE [within N]",
-            CommandName::Break =>
-                "break PLACE, write CCC [WORD], cell PLACE, interrupt NAME or panel [TEXT]",
+            CommandName::Until =>
+                "until PLACE [if CELL < WORD], write CCC or cell PLACE [within N]",
+            CommandName::Break => {
+                "break PLACE [if CELL < WORD], write CCC [WORD], cell PLACE, interrupt NAME or panel [TEXT]"
+            }
             CommandName::Breaks => "breaks",
             CommandName::Delete => "delete N",
             CommandName::Continue => "continue [within N]",
@@ -127,7 +129,7 @@ impl CommandName {
             CommandName::Channel => "channel CCC",
             CommandName::Writes => "writes",
             CommandName::Back => {
-                "back [list] C, step [N], or until PLACE, write CCC [WORD], cell PLACE, interrupt [NAME] or panel"
+                "back [list] C, step [N], or until PLACE [if CELL < WORD], write CCC [WORD], cell PLACE, interrupt [NAME] or panel"
             }
             CommandName::Script => "script",
             CommandName::Save => "save FILE",

@@ -54,13 +54,14 @@ ghost use Rattle.agc_repl.specs.Command.{
 };
 
 use crate::command::{Command, Rewind, Search};
+use crate::comparison::{after_order, read_only_order, read_order};
 use crate::fault::CommandFault;
 use crate::file_name::FileName;
 use crate::name::CommandName;
 use crate::number::{
     read_channel, read_cycles, read_interrupt, read_spec, read_word, read_written_channel,
 };
-use crate::place::{read_cell, read_cells_after, read_place};
+use crate::place::{read_cell, read_cells_after};
 use crate::words::{alone, is_word, only_word};
 use agc_listing::first_comma;
 use agc_panel::PanelLine;
@@ -282,8 +283,8 @@ fn read_until(names: &Option<SymbolTable>, words: &[u8]) -> Result<Command, Comm
         let cell = read_cell(names, place)?;
         return read_until_target(Condition::Cell(cell), rest);
     }
-    let place = read_place(names, first)?;
-    read_until_target(Condition::Order(place), rest)
+    let what = read_order(names, CommandName::Until, words)?;
+    read_until_target(what, after_order(words))
 }
 
 /// Parses the words after a breakpoint.
@@ -371,9 +372,8 @@ fn read_break_place(names: &Option<SymbolTable>, words: &[u8]) -> Result<Command
     ensures breaks { result ≡ break_place names.now (words_of words.now) }
     ensures range { IfOk result IsCommandInRange }
 {
-    let word = only_word(CommandName::Break, words)?;
-    let place = read_place(names, word)?;
-    Ok(break_at(Condition::Order(place)))
+    let what = read_only_order(names, CommandName::Break, words)?;
+    Ok(break_at(what))
 }
 
 #[tactic(auto, unfolding(crate::specs::Command::IsCommandInRange, crate::specs::Command::IsBreakpointInRange))]
@@ -693,7 +693,6 @@ fn read_back_place(names: &Option<SymbolTable>, words: &[u8]) -> Result<Command,
     ensures back { result ≡ back_place names.now (words_of words.now) }
     ensures range { IfOk result IsCommandInRange }
 {
-    let word = only_word(CommandName::Back, words)?;
-    let place = read_place(names, word)?;
-    Ok(last_hit(Condition::Order(place)))
+    let what = read_only_order(names, CommandName::Back, words)?;
+    Ok(last_hit(what))
 }

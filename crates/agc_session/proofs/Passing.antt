@@ -1,5 +1,5 @@
 -- Orders that trigger no watch do not hit a condition, so only the boundary after them may.
-use Rattle.std.specs.Prelude.{◌≡◌, ℕ, zero, suc, ◌+◌, ◌<◌, ◌%◌, ◌||◌, nat_eq, [], Option, None, Some, IsTrue, Bool, true, false, not}
+use Rattle.std.specs.Prelude.{◌≡◌, ℕ, zero, suc, ◌+◌, ◌<◌, ◌%◌, ◌&&◌, ◌||◌, nat_eq, [], Option, None, Some, IsTrue, Bool, true, false, not}
 use Rattle.std.proofs.Common.{refl, ap, sym, subst, ◌∙◌, arith, inl, inr}
 use Rattle.std.proofs.lemmas.Bool.{eqb-true}
 use Rattle.std.proofs.lemmas.Bool.Decides.{nat_tests}
@@ -16,9 +16,11 @@ use Rattle.agc_machine.specs.declared.order_run.Watch.{Watch}
 use Rattle.agc_machine.specs.declared.order_run.Watch.TheVariants as watch
 use Rattle.agc_machine.specs.declared.upcoming.Upcoming.{Upcoming}
 use Rattle.agc_panel.specs.declared.face.Face.{Face}
-use Rattle.agc_session.specs.Condition.{AreHits, Meets, is_changed, is_order_at, is_service_of, panel_after, place_number, same_word, window_address, word_at}
+use Rattle.agc_session.specs.Comparison.{holds_in, same_word, word_at}
+use Rattle.agc_session.specs.Condition.{AreHits, Meets, is_changed, is_order_at, is_service_of, panel_after, place_number, window_address}
 use Rattle.agc_session.specs.Search.{HasAdvanced, HasPassed}
 use Rattle.agc_session.specs.Session.{BeginBefore, shown_after}
+use Rattle.agc_session.specs.declared.comparison.Comparison.{Comparison}
 use Rattle.agc_session.specs.declared.condition.Condition.{Condition}
 use Rattle.agc_session.specs.declared.condition.Condition.TheVariants as condition
 use Rattle.agc_session.proofs.Advancing.{AreMissed, AreQuiet, last_hits, last_misses, none_missed}
@@ -47,9 +49,38 @@ pub one_hit : (b : Condition) (cycle : ℕ) (panel shown : Face) (s t : State) (
 unfolding after
 one_hit b cycle panel shown s t began runs e p c meets = last_hits b cycle 0 panel shown s t began (none_missed b cycle panel s) e p runs c meets
 
+-- one boundary that does not hit
+pub one_misses : (b : Condition) (cycle : ℕ) (panel shown : Face) (s t : State) → t ≡ (boundary None s).0 → shown ≡ panel_after panel s
+    → (Meets b panel s → ⊥) → HasAdvanced b cycle panel shown s t None
+unfolding after
+one_misses b cycle panel shown s t e p miss = last_misses b cycle 0 panel shown s t (none_missed b cycle panel s) e p miss
+
+first_true : (a b : Bool) → (a && b) ≡ true → a ≡ true
+first_true true b e = refl
+first_true false b e = cc
+
+second_true : (a b : Bool) → (a && b) ≡ true → b ≡ true
+second_true true b e = e
+second_true false b e = cc
+
+both_true : (a b : Bool) → a ≡ true → b ≡ true → (a && b) ≡ true
+both_true true b e f = f
+both_true false b e f = cc
+
 pub order_meets : (place : Location) (panel : Face) (s : State) → is_order_at place (upcoming_of s) ≡ true → Meets (condition.Order place) panel s
 unfolding Meets
 order_meets place panel s h = h
+
+pub order_if_meets : (place : Location) (c : Comparison) (panel : Face) (s : State) → is_order_at place (upcoming_of s) ≡ true
+    → holds_in s.processor.store c ≡ true → Meets (condition.OrderIf place c) panel s
+unfolding Meets
+order_if_meets place c panel s e f = both_true (is_order_at place (upcoming_of s)) (holds_in s.processor.store c) e f
+
+pub order_if_misses : (place : Location) (c : Comparison) (panel : Face) (s : State) → holds_in s.processor.store c ≡ false
+    → Meets (condition.OrderIf place c) panel s → ⊥
+unfolding Meets
+order_if_misses place c panel s e h =
+    let both : true ≡ false = sym (second_true (is_order_at place (upcoming_of s)) (holds_in s.processor.store c) h) ∙ e in cc
 
 pub service_meets : (which : Option Rupt) (panel : Face) (s : State) → is_service_of which (upcoming_of s) ≡ true
     → Meets (condition.Interrupt which) panel s
@@ -133,23 +164,33 @@ elsewhere own window place s o w e =
     let both = either_known (nat_eq z own) (nat_eq z window) e in
     elsewhere_by z own window place s refl o w both.0 both.1
 
-order_rules : (own window : ℕ) (place : Location) (cycle : ℕ) → own ≡ place_number place → window ≡ window_address place
-    → RulesOut (condition.Order place) (watch.Next own window) cycle (IsElsewhere place)
-unfolding Meets
-order_rules own window place cycle o w panel t c p = (c, elsewhere own window place (boundary None t).0 o w p.unseen)
+-- the watch for the order at a place
+abbrev pub watch_at : Location → Watch
+watch_at place = watch.Next (place_number place) (window_address place)
 
-elsewhere_misses : (place : Location) (panel : Face) (s : State) → IsElsewhere place s → Meets (condition.Order place) panel s → ⊥
-unfolding Meets
-elsewhere_misses place panel s c h = c h
+-- only the order at a place hits a condition
+abbrev pub NeedsOrder : Location → Condition → Type 0
+NeedsOrder place b = (panel : Face) (s : State) → Meets b panel s → IsTrue (is_order_at place (upcoming_of s))
 
-pub no_order : (own window : ℕ) (place : Location) (cycle : ℕ) (panel shown : Face) (s t : State) (began : ℕ) → own ≡ place_number place
-    → window ≡ window_address place → HasPassed (watch.Next own window) cycle panel shown s t began → is_order_at place (upcoming_of s) ≡ false
-    → HasAdvanced (condition.Order place) cycle panel shown s t None
-no_order own window place cycle panel shown s t began o w h none =
-    let way = all_missed (condition.Order place) (watch.Next own window) cycle (IsElsewhere place) (order_rules own window place cycle o w) h.more panel s
+pub order_needs : (place : Location) → NeedsOrder place (condition.Order place)
+unfolding Meets
+order_needs place panel s h = h
+
+pub order_if_needs : (place : Location) (c : Comparison) → NeedsOrder place (condition.OrderIf place c)
+unfolding Meets
+order_if_needs place c panel s h = first_true (is_order_at place (upcoming_of s)) (holds_in s.processor.store c) h
+
+order_rules : (b : Condition) (place : Location) (cycle : ℕ) → NeedsOrder place b → RulesOut b (watch_at place) cycle (IsElsewhere place)
+order_rules b place cycle needs panel t c p =
+    (λ h. c (needs panel t h), elsewhere (place_number place) (window_address place) place (boundary None t).0 refl refl p.unseen)
+
+pub no_order : (b : Condition) (w : Watch) (place : Location) (cycle : ℕ) (panel shown : Face) (s t : State) (began : ℕ) → NeedsOrder place b
+    → w ≡ watch_at place → HasPassed w cycle panel shown s t began → is_order_at place (upcoming_of s) ≡ false → HasAdvanced b cycle panel shown s t None
+no_order b w place cycle panel shown s t began needs is way none =
+    let h : HasPassed (watch_at place) cycle panel shown s t began = subst (λ (x : Watch). HasPassed x cycle panel shown s t began) is way in
+    let missed = all_missed b (watch_at place) cycle (IsElsewhere place) (order_rules b place cycle needs) h.more panel s
     (λ k. let both : true ≡ false = sym k ∙ none in cc) h.passed in
-    last_misses (condition.Order place) cycle h.more panel shown s t way.0 h.now h.panel_now
-    (elsewhere_misses place panel (after h.more s) way.1)
+    last_misses b cycle h.more panel shown s t missed.0 h.now h.panel_now (λ k. missed.1 (needs panel (after h.more s) k))
 
 -- a cell keeps its word
 abbrev HasWord : ℕ → Number → State → Type 0

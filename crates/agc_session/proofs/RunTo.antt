@@ -9,7 +9,8 @@ use Rattle.agc_machine.specs.State.{State}
 use Rattle.agc_machine.specs.declared.answer.Stepped.{Stepped}
 use Rattle.agc_panel.specs.declared.face.Face.{Face}
 use Rattle.agc_panel.specs.declared.panel_line.PanelLine.{PanelLine}
-use Rattle.agc_session.specs.Condition.{Ends, HasRunTo, Meets, NoneEnds, is_changed, is_service_of, panel_after, panel_later, same_word, word_at}
+use Rattle.agc_session.specs.Comparison.{same_word, word_at}
+use Rattle.agc_session.specs.Condition.{Ends, HasRunTo, Meets, NoneEnds, is_changed, is_service_of, panel_after, panel_later}
 use Rattle.agc_session.specs.Search.{IsOnWrite}
 use Rattle.agc_session.specs.Session.{BeginBefore, HasGone, SessionState, shown_after}
 use Rattle.agc_session.specs.declared.condition.Condition.{Condition}
@@ -154,6 +155,7 @@ on_write b (inr (inr (line, is))) = subst IsOnWrite (sym is) refl
 
 meets_ends : (b : Condition) (panel : Face) (s : State) (result : Bool) → IsOnWrite b → IsTrue result ↔ Meets b panel s → IsTrue result ↔ Ends b panel s
 meets_ends (condition.Order place) panel s result on h = cc
+meets_ends (condition.OrderIf place comparison) panel s result on h = cc
 meets_ends condition.Boundary panel s result on h = h
 meets_ends (condition.Cell cell) panel s result on h = h
 meets_ends (condition.Write channel word) panel s result on h = h

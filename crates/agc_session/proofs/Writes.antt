@@ -73,6 +73,7 @@ no_quiet_hit condition.Panel panel s on e h = let quiet : false ≡ true = rw e 
 no_quiet_hit (condition.Shows line) panel s on e h = let quiet : false ≡ true = rw e at h in cc
 no_quiet_hit condition.Boundary panel s on e h = cc
 no_quiet_hit (condition.Order place) panel s on e h = cc
+no_quiet_hit (condition.OrderIf place comparison) panel s on e h = cc
 no_quiet_hit (condition.Cell cell) panel s on e h = cc
 no_quiet_hit (condition.Interrupt which) panel s on e h = cc
 
@@ -83,6 +84,7 @@ no_stop_hit condition.Panel panel s why on e h = let none : false ≡ true = rw 
 no_stop_hit (condition.Shows line) panel s why on e h = let none : false ≡ true = rw e at h in cc
 no_stop_hit condition.Boundary panel s why on e h = cc
 no_stop_hit (condition.Order place) panel s why on e h = cc
+no_stop_hit (condition.OrderIf place comparison) panel s why on e h = cc
 no_stop_hit (condition.Cell cell) panel s why on e h = cc
 no_stop_hit (condition.Interrupt which) panel s why on e h = cc
 

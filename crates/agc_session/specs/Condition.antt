@@ -1,11 +1,10 @@
 -- The conditions that a run stops at, and which boundaries of a run hit one.
-use Rattle.std.specs.Prelude.{◌≡◌, ◌⊎◌, ℕ, zero, suc, ◌+◌, ◌<◌, ◌≤◌, ◌/◌, ◌%◌, if◌then◌else◌, nat_eq, Bool, true, false, not, ◌&&◌}
+use Rattle.std.specs.Prelude.{◌≡◌, ◌⊎◌, ℕ, zero, suc, ◌+◌, ◌<◌, ◌≤◌, ◌%◌, if◌then◌else◌, nat_eq, Bool, true, false, not, ◌&&◌}
 use Rattle.std.specs.Prelude.{List, [], ◌∷◌, ◌++◌, length, find, All, Option, None, Some, IsTrue, IsSome}
 use Rattle.std.specs.List.{list_any}
-use Rattle.agc_word.specs.Number.{Number, pattern_of}
-use Rattle.agc_store.specs.Cells.{cell_of}
+use Rattle.agc_word.specs.Number.{Number}
 use Rattle.agc_store.specs.Memory.{Memory}
-use Rattle.agc_store.specs.Places.{erasable_bank_size, erasable_cells}
+use Rattle.agc_store.specs.Places.{erasable_cells}
 use Rattle.agc_listing.specs.Location.{location_at}
 use Rattle.agc_listing.specs.declared.location.Location.{Location}
 use Rattle.agc_listing.specs.declared.location.Location.TheVariants as location
@@ -24,7 +23,9 @@ use Rattle.agc_panel.specs.PanelLine.{shows}
 use Rattle.agc_panel.specs.Text.{shows_same}
 use Rattle.agc_panel.specs.declared.face.Face.{Face}
 use Rattle.agc_panel.specs.declared.panel_line.PanelLine.{PanelLine}
+use Rattle.agc_session.specs.Comparison.{IsComparisonInRange, holds_in, same_word, word_at}
 use Rattle.agc_session.specs.Session.{BeginBefore, SessionState, script_of, shown_after, start_with}
+use Rattle.agc_session.specs.declared.comparison.Comparison.{Comparison}
 use Rattle.agc_session.specs.declared.condition.Armed.{Armed}
 use Rattle.agc_session.specs.declared.condition.Condition.{Condition}
 use Rattle.agc_session.specs.declared.condition.Condition.TheVariants as condition
@@ -45,14 +46,6 @@ abbrev pub window_address : Location → ℕ
 window_address (location.Fixed place) = 0o2000 + place % 0o2000
 window_address (location.Erasable cell) = 0o1400 + cell % 0o400
 
--- two words have the same fifteen bits: +0 and -0 differ
-abbrev pub same_word : Number → Number → Bool
-same_word one other = nat_eq (pattern_of 15 one) (pattern_of 15 other)
-
--- the word of a cell by its number, overflow corrected
-abbrev pub word_at : ℕ → Memory → Number
-word_at cell m = cell_of m (cell / erasable_bank_size) (cell % erasable_bank_size)
-
 -- the order at a place comes next
 abbrev pub is_order_at : Location → Upcoming → Bool
 is_order_at place (upcoming.Order order) = same_location (location_at order.bank order.address) place
@@ -60,6 +53,10 @@ is_order_at place (upcoming.Stop why) = false
 is_order_at place (upcoming.Event what) = false
 is_order_at place (upcoming.Timer t) = false
 is_order_at place (upcoming.Interrupt r) = false
+
+-- the same in a state in which a comparison holds
+abbrev pub is_order_if : Location → Comparison → State → Bool
+is_order_if place comparison s = is_order_at place (upcoming_of s) && holds_in s.processor.store comparison
 
 -- the service of an interrupt comes next: of this one, or of any
 abbrev pub is_wanted : Option Rupt → Rupt → Bool
@@ -106,6 +103,7 @@ is_changed cell before later = not (same_word (word_at cell later) (word_at cell
 -- a cell of a condition exists
 abbrev pub IsConditionInRange : Condition → Type 0
 IsConditionInRange (condition.Cell cell) = cell < erasable_cells
+IsConditionInRange (condition.OrderIf place comparison) = IsComparisonInRange comparison
 IsConditionInRange condition.Boundary = Unit {0}
 IsConditionInRange (condition.Order place) = Unit {0}
 IsConditionInRange (condition.Write channel word) = Unit {0}
@@ -135,6 +133,7 @@ panel_after panel s = shown_after (boundary None s).1 panel
 unfoldable pub Meets : Condition → Face → State → Type 0
 Meets condition.Boundary panel s = Unit {0}
 Meets (condition.Order place) panel s = IsTrue (is_order_at place (upcoming_of s))
+Meets (condition.OrderIf place comparison) panel s = IsTrue (is_order_if place comparison s)
 Meets (condition.Cell cell) panel s =
     IsTrue (is_changed cell s.processor.store (boundary None s).0.processor.store)
 Meets (condition.Write channel word) panel s = IsTrue (is_write_of channel word (boundary None s).1)
@@ -200,6 +199,7 @@ IsFoundBack condition count s found = IsFoundFrom condition count (start_with (s
 -- A run forward ends with a boundary that hits a condition, but before the order at a place.
 abbrev pub Ends : Condition → Face → State → Type 0
 Ends (condition.Order place) panel s = IsTrue (is_order_at place (upcoming_of (boundary None s).0))
+Ends (condition.OrderIf place comparison) panel s = IsTrue (is_order_if place comparison (boundary None s).0)
 Ends condition panel s = Meets condition panel s
 
 -- none of this many boundaries ends a run forward
@@ -246,6 +246,7 @@ is_other_word cell None m = false
 abbrev pub is_hit_as : Condition → Option Number → Face → State → Stepped → Bool
 is_hit_as condition.Boundary before panel s answer = true
 is_hit_as (condition.Order place) before panel s answer = is_order_at place (upcoming_of s)
+is_hit_as (condition.OrderIf place comparison) before panel s answer = is_order_if place comparison s
 is_hit_as (condition.Cell cell) before panel s answer = is_other_word cell before s.processor.store
 is_hit_as (condition.Interrupt which) before panel s answer = is_service_of which (upcoming_of s)
 is_hit_as (condition.Write channel word) before panel s answer = is_write_of channel word answer
@@ -258,6 +259,7 @@ is_hit a panel s answer = is_hit_as a.condition a.before panel s answer
 -- a condition on what comes next, just before which a run ends
 abbrev pub is_on_next : Condition → Bool
 is_on_next (condition.Order place) = true
+is_on_next (condition.OrderIf place comparison) = true
 is_on_next (condition.Interrupt which) = true
 is_on_next what = false
 

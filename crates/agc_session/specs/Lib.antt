@@ -1,5 +1,6 @@
 pub mod Session
 pub mod Checkpoints
 pub mod Arguments
+pub mod Comparison
 pub mod Condition
 pub mod Search

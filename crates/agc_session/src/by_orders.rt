@@ -2,14 +2,14 @@
 ghost use Rattle.std.specs.Prelude.{◌≡◌, ◌<◌, None};
 ghost use Rattle.agc_machine.specs.Boundary.{boundary};
 ghost use Rattle.agc_machine.specs.OrderRun.{IsWatchInRange};
-ghost use Rattle.agc_session.specs.Condition.{panel_after};
+ghost use Rattle.agc_session.specs.Comparison.{IsComparisonInRange};
+ghost use Rattle.agc_session.specs.Condition.{panel_after, place_number, window_address};
 ghost use Rattle.agc_session.specs.Search.{HasAdvanced, HasPassed};
 ghost use Rattle.agc_session.specs.Session.{shown_after};
 ghost use Rattle.agc_store.specs.Places.{erasable_cells};
 
-use crate::condition::{
-    Condition, has_changed, is_order_next, is_service_next, place_number, window_address, word_of,
-};
+use crate::comparison::{Comparison, has_changed, word_of};
+use crate::condition::{Condition, is_order_next, is_service_next, place_number, window_address};
 use agc_listing::Location;
 use agc_machine::{Machine, Stepped, Watch};
 use agc_panel::Panel;
@@ -29,12 +29,40 @@ pub(crate) fn pass_to_order(
     if is_order_next(machine, place) {
         return Some(pass(machine, panel));
     }
-    let watch = Watch::Next {
+    pass_some(&watch_of(place), machine, panel, end);
+    None
+}
+
+/// Takes one boundary or more to a cycle, but none after the order at a place. Returns the cycle at which the order
+/// began, if it ran and a comparison held just before it.
+pub(crate) fn pass_to_order_if(
+    place: Location,
+    comparison: &Comparison,
+    machine: &mut Machine,
+    panel: &mut Panel,
+    end: u64,
+) -> Option<u64>
+    requires range { IsComparisonInRange comparison.now }
+    requires runs { machine.old.stopped ≡ None }
+    ensures { HasAdvanced (Condition.OrderIf place comparison.now) end panel.old panel.new machine.old machine.new result }
+{
+    if !is_order_next(machine, place) {
+        pass_some(&watch_of(place), machine, panel, end);
+        return None;
+    }
+    let hit = comparison.holds_in(machine.store());
+    let began = pass(machine, panel);
+    if hit { Some(began) } else { None }
+}
+
+/// Returns the watch that ends a run of orders before the order at a place.
+fn watch_of(place: Location) -> Watch
+    ensures { result ≡ Watch.Next (place_number place) (window_address place) }
+{
+    Watch::Next {
         address: place_number(place),
         window: window_address(place),
-    };
-    pass_some(&watch, machine, panel, end);
-    None
+    }
 }
 
 /// Takes one boundary or more to a cycle, but none after the start of the service of this interrupt, or of any. Returns

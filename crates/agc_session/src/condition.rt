@@ -1,5 +1,5 @@
 //! Conditions: what a run forward or a search back stops at, and whether a boundary hits one.
-ghost use Rattle.std.specs.Prelude.{◌≡◌, ◌↔◌, ◌<◌, IsTrue, find, not, true};
+ghost use Rattle.std.specs.Prelude.{◌≡◌, ◌↔◌, ◌<◌, IsTrue, find, true};
 ghost use Rattle.agc_machine.specs.Boundary.{boundary, upcoming_of};
 ghost use Rattle.agc_machine.specs.State.{State};
 ghost use Rattle.agc_session.specs.Search.{IsOnWrite};
@@ -15,6 +15,7 @@ ghost use Rattle.agc_session.specs.Condition.{
   is_met_by,
   is_on_write,
   is_order_at,
+  is_order_if,
   is_other_word,
   is_service_of,
   is_value_of,
@@ -22,18 +23,17 @@ ghost use Rattle.agc_session.specs.Condition.{
   needs_each,
   place_number,
   same_location,
-  same_word,
   window_address,
-  word_at,
 };
+ghost use Rattle.agc_session.specs.Comparison.{IsComparisonInRange};
 ghost use Rattle.agc_store.specs.Places.{erasable_cells};
 
+use crate::comparison::{Comparison, has_changed, word_of};
 use agc_listing::{Location, location_at};
 use agc_machine::{Machine, Stepped, Upcoming};
 use agc_panel::{Panel, PanelLine};
 use agc_processor::Rupt;
 use agc_store::Store;
-use agc_store::place::ERASABLE_BANK_SIZE;
 use agc_word::Narrow;
 
 /// What a run, forward or backward, stops at.
@@ -43,6 +43,11 @@ pub enum Condition {
     Boundary,
     /// The order at this place.
     Order(Location),
+    /// The order at this place, if a comparison holds just before it.
+    OrderIf {
+        place: Location,
+        comparison: Comparison,
+    },
     /// A change of this cell, with overflow corrected. Its number is 400 octal times its bank, plus its offset.
     Cell(u16),
     /// A channel write: to this channel, or to any, and of this word, or of any.
@@ -95,6 +100,9 @@ impl Armed {
         match &self.condition {
             Condition::Boundary => true,
             Condition::Order(place) => is_order_next(machine, *place),
+            Condition::OrderIf { place, comparison } => {
+                is_order_next_if(machine, *place, comparison)
+            }
             Condition::Cell(cell) => is_other_word(machine.store(), *cell, &self.before),
             Condition::Interrupt(which) => is_service_next(machine, *which),
             Condition::Write { .. } | Condition::Panel | Condition::Shows(_) => {
@@ -176,6 +184,14 @@ pub(crate) fn is_order_next(machine: &Machine, place: Location) -> bool
     ensures { result ≡ is_order_at place (upcoming_of machine.now) }
 {
     may_come_next(machine, place) && is_order_in_hand(machine, place)
+}
+
+/// Returns whether the order at a place comes next, and a comparison holds.
+pub(crate) fn is_order_next_if(machine: &Machine, place: Location, comparison: &Comparison) -> bool
+    requires { IsComparisonInRange comparison.now }
+    ensures { result ≡ is_order_if place comparison.now machine.now }
+{
+    is_order_next(machine, place) && comparison.holds_in(machine.store())
 }
 
 /// Returns whether Z is one past an address of a place: its own, or the one in the window of its bank.
@@ -263,14 +279,6 @@ fn is_at(here: Location, there: Location) -> bool
     here == there
 }
 
-/// Returns whether a cell has another word than before.
-pub(crate) fn has_changed(store: &Store, cell: u16, before: Narrow) -> bool
-    requires { cell < erasable_cells }
-    ensures { result ≡ not (same_word (word_at cell store.now) before) }
-{
-    word_of(store, cell) != before
-}
-
 /// Returns whether a cell has another word than before, if that is known.
 fn is_other_word(store: &Store, cell: u16, before: &Option<Narrow>) -> bool
     requires { cell < erasable_cells }
@@ -280,12 +288,4 @@ fn is_other_word(store: &Store, cell: u16, before: &Option<Narrow>) -> bool
         Some(before) => has_changed(store, cell, *before),
         None => false,
     }
-}
-
-/// Returns the word of a cell by its number.
-pub(crate) fn word_of(store: &Store, cell: u16) -> Narrow
-    requires { cell < erasable_cells }
-    ensures { result ≡ word_at cell store.now }
-{
-    store.cell((cell / ERASABLE_BANK_SIZE) as u8, cell % ERASABLE_BANK_SIZE)
 }

@@ -5,6 +5,7 @@ mod arguments;
 mod by_orders;
 mod cancellation;
 mod checkpoint;
+mod comparison;
 mod condition;
 mod fault;
 pub mod laws;
@@ -14,6 +15,7 @@ mod writing;
 
 pub use arguments::{SessionArgs, open_session, session_args, session_from, with_session_args};
 pub use cancellation::{Cancellation, NoCancellation};
+pub use comparison::{Comparison, Relation};
 pub use condition::{Armed, Condition};
 pub use fault::{BeginFault, InjectFault, RewindFailed, SearchFault};
 pub use session::{Advanced, Rewound, Session};

@@ -23,9 +23,10 @@ ghost use Rattle.agc_session.specs.Session.{discarded, retained_before, script_o
 
 use crate::cancellation::{Cancellation, NoCancellation};
 use crate::checkpoint::{Checkpoint, Checkpoints};
+use crate::comparison::{has_changed, word_of};
 use crate::condition::{
-    Armed, Condition, first_hit, has_changed, is_hit_by_write, is_order_next, is_service_next,
-    needs_each, word_of,
+    Armed, Condition, first_hit, is_hit_by_write, is_order_next, is_order_next_if, is_service_next,
+    needs_each,
 };
 use crate::fault::{BeginFault, InjectFault, RewindFailed, SearchFault};
 use crate::search::search_back;
@@ -519,6 +520,10 @@ impl Session {
             Condition::Order(place) => {
                 self.step();
                 is_order_next(self.machine(), *place)
+            }
+            Condition::OrderIf { place, comparison } => {
+                self.step();
+                is_order_next_if(self.machine(), *place, comparison)
             }
             Condition::Cell(cell) => {
                 let before = word_of(self.machine().store(), *cell);

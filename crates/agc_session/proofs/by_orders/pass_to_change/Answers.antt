@@ -2,7 +2,7 @@ use Rattle.std.specs.Prelude.{not}
 use Rattle.std.proofs.Common.{ap, sym, ◌∙◌}
 use Rattle.agc_word.specs.Number.{Number, pattern_of}
 use Rattle.agc_store.specs.Memory.{Memory}
-use Rattle.agc_session.specs.Condition.{same_word, word_at}
+use Rattle.agc_session.specs.Comparison.{same_word, word_at}
 use Rattle.agc_session.proofs.Passing.{last_changes, no_change}
 use Rattle.agc_session.proofs.by_orders.pass_to_change.Goals as goal
 

@@ -1,6 +1,6 @@
 use Rattle.agc_session.specs.declared.condition.Condition.TheVariants as condition
 use Rattle.std.proofs.Common.{sym}
-use Rattle.agc_session.proofs.Passing.{no_order, one_hit, order_meets}
+use Rattle.agc_session.proofs.Passing.{no_order, one_hit, order_meets, order_needs}
 use Rattle.agc_session.proofs.by_orders.pass_to_order.Goals as goal
 
 pub returns-then-is_order_next : goal.returns-then-is_order_next
@@ -11,5 +11,5 @@ returns-then-is_order_next c =
 
 pub returns : goal.returns
 returns c =
-    no_order c.place_number.result c.window_address.result c.args.place c.args.end c.args.panel.now c.pass_some.new.panel c.args.machine.now c.pass_some.new.machine
-    c.pass_some.result c.place_number.ensures c.window_address.ensures c.pass_some.ensures (sym c.if-is_order_next.ensures)
+    no_order (condition.Order c.args.place) c.watch_of.result c.args.place c.args.end c.args.panel.now c.pass_some.new.panel c.args.machine.now
+    c.pass_some.new.machine c.pass_some.result (order_needs c.args.place) c.watch_of.ensures c.pass_some.ensures (sym c.if-is_order_next.ensures)

@@ -12,6 +12,9 @@ returns-in-Boundary c =
 pub returns-in-Order : goal.returns-in-Order
 returns-in-Order c = rw c.in-Order.is c.pass_to_order.ensures
 
+pub returns-in-OrderIf : goal.returns-in-OrderIf
+returns-in-OrderIf c = rw c.in-OrderIf.is c.pass_to_order_if.ensures
+
 pub returns-in-Cell : goal.returns-in-Cell
 returns-in-Cell c = rw c.in-Cell.is c.pass_to_change.ensures
 

@@ -3,7 +3,8 @@ use Rattle.agc_store.specs.Memory.{Memory}
 use Rattle.std.specs.Prelude.{not}
 use Rattle.agc_machine.specs.State.{State}
 use Rattle.agc_machine.specs.Boundary.{upcoming_of}
-use Rattle.agc_session.specs.Condition.{is_service_of, same_word, word_at}
+use Rattle.agc_session.specs.Comparison.{same_word, word_at}
+use Rattle.agc_session.specs.Condition.{is_service_of}
 use Rattle.agc_session.proofs.RunTo.{ends_boundary, ends_cell, ends_interrupt, ends_on_write}
 use Rattle.agc_session.proofs.session.Session.step_to.Goals as goal
 
