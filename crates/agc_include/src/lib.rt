@@ -8,6 +8,3 @@ mod folder;
 pub use expansion::{Expanded, Folder, expand, has_include};
 pub use fault::{ExpandError, IncludeFault, ReadFault};
 pub use folder::{DiskFolder, name_of_path, path_beside};
-
-#[cfg(test)]
-mod tests;

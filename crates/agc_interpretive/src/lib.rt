@@ -11,8 +11,6 @@ mod pair;
 mod pending;
 mod store;
 mod table;
-#[cfg(test)]
-mod tests;
 mod words;
 
 pub use due::{Due, Value, operand_word};

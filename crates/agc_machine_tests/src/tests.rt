@@ -1,4 +1,5 @@
 //! Tests of words, memory, orders, scripts and the machine, with values and runs worked out by hand.
+mod interpretive;
 mod listing;
 mod machine;
 mod order;

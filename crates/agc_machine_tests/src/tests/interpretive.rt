@@ -1,16 +1,9 @@
-//! Tests of words that were worked out by hand, from remembered listings and from the interpreter's steps.
-use crate::{
+//! Tests of interpretive words that were worked out by hand, from remembered listings and from the interpreter's steps.
+use super::equal_at;
+use agc_interpretive::{
     Action, Count, Due, Fault, Index, Operation, Pending, Place, Value, When, indexes, name_in,
     operand_word, pair_in,
 };
-use std::fmt::Debug;
-use std::process::Abort;
-use std::test::Fail;
-
-/// Checks that two values are equal, in the named row.
-fn same<T: PartialEq + Debug + Drop>(rt: &impl Abort, reported: T, wanted: T, row: &str) {
-    assert_eq!(rt; reported, wanted, "{row}");
-}
 
 fn number(places: u16) -> Value {
     Value::Number(Count {
@@ -93,7 +86,7 @@ static PAIRS: [(&str, &str, u16); 22] = [
 #[test]
 fn pairs_have_the_remembered_words(rt: HostRuntime) {
     for (left, right, word) in &PAIRS {
-        same(&rt, pair(left, right), Ok(*word), left);
+        equal_at(&rt, left, pair(left, right), Ok(*word));
     }
 }
 
@@ -165,34 +158,34 @@ fn operands_have_their_words(rt: HostRuntime) {
             Err(Fault::BadNumber),
         ),
     ] {
-        same(&rt, operand(name, value, index), word, name);
+        equal_at(&rt, name, operand(name, value, index), word);
     }
 }
 
 #[test]
 fn codes_are_decoded(rt: HostRuntime) {
-    same(
+    equal_at(
         &rt,
+        "DLOAD DSU",
         pair_in(0o45345),
         Some((0o031, Some(0o151))),
-        "DLOAD DSU",
     );
-    same(&rt, pair_in(0o77776), Some((0, None)), "EXIT");
-    same(&rt, pair_in(0o77777), None, "-0");
-    same(&rt, pair_in(0o37777), None, "a store");
-    same(
+    equal_at(&rt, "EXIT", pair_in(0o77776), Some((0, None)));
+    equal_at(&rt, "-0", pair_in(0o77777), None);
+    equal_at(&rt, "a store", pair_in(0o37777), None);
+    equal_at(
         &rt,
+        "DLOAD*",
         (name_in(0o033), indexes(0o033)),
         ("DLOAD", true),
-        "DLOAD*",
     );
-    same(
+    equal_at(
         &rt,
+        "BOVB",
         (name_in(0o172), indexes(0o172)),
         ("BOVB", false),
-        "BOVB",
     );
-    same(&rt, name_in(0o166), "", "a free code");
+    equal_at(&rt, "a free code", name_in(0o166), "");
 }
 
 /// Code in bank 20 reaches banks 22 to 37, and the superbank's 42 as 32.
@@ -205,7 +198,7 @@ fn high_code_reaches_the_high_half(rt: HostRuntime) {
         (0o42000, Err(Fault::UnreachedBank)),
     ] {
         let found = operand_word(Due::Popped, 0o40000, fixed(place), Index::Direct);
-        same(&rt, found, word, "bank 20");
+        equal_at(&rt, "bank 20", found, word);
     }
 }
 
@@ -230,10 +223,10 @@ fn stores_have_their_words(rt: HostRuntime) {
         ("STCALL", Index::Direct, Ok(0o34101)),
         ("STCALL", Index::X1, Err(Fault::BadIndex)),
     ] {
-        same(&rt, store(&Pending::NOTHING, name, index), word, name);
+        equal_at(&rt, name, store(&Pending::NOTHING, name, index), word);
     }
     let found = behind("DAD", "STADR").map(|pending| store(&pending, "STODL", Index::Direct));
-    same(&rt, found, Ok(Ok(0o63676)), "behind STADR");
+    equal_at(&rt, "behind STADR", found, Ok(Ok(0o63676)));
 }
 
 /// What is left out behind a line: before a line of operations, and before a store.
@@ -252,7 +245,7 @@ fn operands_are_left_out_where_nothing_follows(rt: HostRuntime) {
             due.fault_at_end(false),
             due.fault_at_end(true),
         ));
-        same(&rt, found, Ok((before_pair, before_store)), left);
+        equal_at(&rt, left, found, Ok((before_pair, before_store)));
     }
 }
 
@@ -272,13 +265,13 @@ fn operands_are_due_in_order(rt: HostRuntime) {
         Some(Due::Branch),
         last,
     );
-    same(&rt, found, Ok(wanted), "BON SSP");
-    same(&rt, pair("DLOAD", "STORE"), Err(Fault::BadPair), "a store");
-    same(
+    equal_at(&rt, "BON SSP", found, Ok(wanted));
+    equal_at(&rt, "a store", pair("DLOAD", "STORE"), Err(Fault::BadPair));
+    equal_at(
         &rt,
+        "nothing due",
         Pending::NOTHING.operand_line(0, number(1), Index::Direct),
         Err(Fault::TooMany),
-        "nothing due",
     );
 }
 
@@ -294,6 +287,6 @@ fn operand_lines_are_recognised(rt: HostRuntime) {
         ("UNIT", 24, "X", false, false),
     ] {
         let found = behind(left, "").map(|due| due.takes_line(column, word.as_bytes(), is_basic));
-        same(&rt, found, Ok(takes), word);
+        equal_at(&rt, word, found, Ok(takes));
     }
 }
