@@ -25,7 +25,7 @@ cannot_run() { echo "$judge: $*" && exit 77; }
 has() {
     case $1 in
     browser) BROWSER=$(command -v chromium || command -v chromium-browser || command -v google-chrome) && export BROWSER ;;
-    ensurepip | distributed | matplotlib)
+    ensurepip | distributed | matplotlib | pandas)
         for PYTHON in python3 /usr/bin/python3; do
             ! command -v "$PYTHON" >/dev/null || ! "$PYTHON" -c "import $1" 2>/dev/null || return 0
         done

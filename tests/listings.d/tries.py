@@ -208,6 +208,9 @@ def try_interpretive(scratch):
     rope = Path(scratch, "spoken.rope")
     rope.write_bytes(run("weave", lines)[1])
     judge("list --interpretive", (0, SPOKEN.encode(), ""), run("list", rope, "--interpretive", "04,2000-04,2015"))
+    ranges = Path(scratch, "ranges")
+    ranges.write_text("# the code\r\n\n04,2000-04,2006\t# its first words\n\t04,2007-04,2015")
+    judge("list --interpretive @FILE", (0, SPOKEN.encode(), ""), run("list", rope, "--interpretive", f"@{ranges}"))
     page = Path(scratch, "spoken.agc")
     spoken = [line.split(" ", 2)[2] for line in SPOKEN.splitlines()]
     page.write_text("        BANK    04\n" + "".join(f"{' ' * (24 if word[0].isdigit() else 16)}{word}\n" for word in spoken))

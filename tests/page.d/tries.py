@@ -12,6 +12,7 @@ import exercises
 import flights
 import listing
 import opening
+import plotted
 import randoms
 import source
 import twins
@@ -122,7 +123,7 @@ def try_firefox():
 
 TRIES = (
     try_made, try_session, try_example, web.try_changes, web.try_stop, web.try_sizes, try_words, try_fallbacks, *flights.TRIES, *twins.TRIES, *randoms.TRIES,
-    *opening.TRIES, *source.TRIES, *exercises.TRIES, *(listing.TRIES if source.HAS_ASSEMBLER else ()),
+    *opening.TRIES, *source.TRIES, *exercises.TRIES, *plotted.TRIES, *(listing.TRIES if source.HAS_ASSEMBLER else ()),
 )
 
 

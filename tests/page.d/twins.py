@@ -39,6 +39,7 @@ FLIGHTS = (
         1400: ['rendezvous'], 2400: ['landing'], 3000: ['nearer', 'abort'], 3100: ['rate-up'],
     }, 6000),
 )
+ORBIT = ('a landing from orbit', 18, {175: '3'}, {}, 73500)
 
 
 class Recorder:
@@ -106,8 +107,8 @@ def recorded(instrument, keys, buttons, end):
     return came, done, rows
 
 
-HARNESS = """(Instrument, seed, came) => {
-    const instrument = new Instrument({ seed });
+HARNESS = """(Instrument, seed, came, orbit) => {
+    const instrument = new Instrument({ seed, orbit });
     const all = [];
     const rows = [];
     let words = {};
@@ -157,10 +158,11 @@ def try_twins():
     os.mkdir(home)
     window = Window(os.environ['BROWSER'], home, 800, 600)
     window.value(f'window.Twin = {instrument_of_page()}; 0')
-    for what, seed, keys, buttons, end in FLIGHTS:
-        instrument = craft.Instrument(craft.Craft(seed=seed), seed)
-        came, done, rows = recorded(instrument, {**APPROACH, **keys}, buttons, end)
-        found, found_rows = window.value(f'({HARNESS})(Twin, {seed}, {json.dumps(came)})')
+    for what, seed, keys, buttons, end in (*FLIGHTS, ORBIT):
+        is_far = what == ORBIT[0]
+        born = craft.Craft(**craft.IN_ORBIT, seed=seed, is_far=True) if is_far else craft.Craft(seed=seed)
+        came, done, rows = recorded(craft.Instrument(born, seed), {**APPROACH, **keys}, buttons, end)
+        found, found_rows = window.value(f'({HARNESS})(Twin, {seed}, {json.dumps(came)}, {json.dumps(is_far)})')
         judge(f'{what}: there are events', True, sum(map(len, done)) > end / 2)
         differs = next((tick for tick, pair in enumerate(zip(done, found), 1) if pair[0] != pair[1]), None)
         judge(f'{what}: the first tick that differs, and how many there are', (None, end), (differs, len(found)))

@@ -14,6 +14,7 @@ from pathlib import Path
 import judge
 
 TOP = Path(judge.TOP)
+LANDING = TOP / "examples" / "descent" / "README.md"
 PROGRAMS = {"agc": "AGC", "agc-study": "STUDY", "agc-console": "CONSOLE", "agc-dsky": "DSKY"}
 # what a page's commands may read or change; the rest of the tree is no business of theirs
 COPIED = ("README.md", "docs", "examples", "clients", "prebuilt", "agc-web")
@@ -143,7 +144,7 @@ def try_page(page):
 
 def main():
     os.environ["LC_ALL"] = "C"
-    pages = [Path(name).resolve() for name in sys.argv[1:]] or [TOP / "README.md", *sorted((TOP / "docs").rglob("*.md"))]
+    pages = [Path(name).resolve() for name in sys.argv[1:]] or [TOP / "README.md", LANDING, *sorted((TOP / "docs").rglob("*.md"))]
     for page in pages:
         try_page(page)
     judge.finish()

@@ -230,7 +230,7 @@ def try_files():
     """A file that is named and cannot be had is refused; one beside the rope that cannot be read is left out."""
     command = [os.path.join(TOP, 'agc-web'), example('keys', 'rope'), '--port', '0', '--guide']
     long = guide_file('#' * 65537, 'long')
-    for path, reason in ((os.path.join(FOLDER, 'none'), 'No such file or directory'), (FOLDER, 'Is a directory'), (long, 'a guide has 65536 bytes at most')):
+    for path, reason in ((os.path.join(FOLDER, 'none'), 'No such file or directory'), (FOLDER, 'Is a directory'), (long, 'it has more than 65536 bytes')):
         done = subprocess.run([*command, path], capture_output=True, text=True)
         judge(f'{reason}: the status, and why', (1, f'agc-web: {path}: {reason}\n'), (done.returncode, done.stderr))
     rope = os.path.join(FOLDER, 'own.bin')
@@ -239,7 +239,7 @@ def try_files():
     guide_file('#' * 65537, 'own.bin.guide')
     site = started(rope)
     judge('it starts without', None, site.state()['about']['guide'])
-    judge('and says why', f'agc-web: {rope}.guide is left out: a guide has 65536 bytes at most\n', site.end()[2])
+    judge('and says why', f'agc-web: {rope}.guide is left out: it has more than 65536 bytes\n', site.end()[2])
 
 
 TRIES = (try_language, try_steps, try_guides, try_flights, try_files)

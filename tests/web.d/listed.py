@@ -286,14 +286,14 @@ def try_refused():
 
 def try_unreadable(folder, rope):
     """A file without an end, or that is not there, is refused; one beside the rope is left out."""
-    for path, why in (('/dev/zero', 'a listing has 16777216 bytes at most'), (os.path.join(folder, 'none'), 'No such file or directory')):
+    for path, why in (('/dev/zero', 'it has more than 16777216 bytes'), (os.path.join(folder, 'none'), 'No such file or directory')):
         done = subprocess.run([os.path.join(TOP, 'agc-web'), rope, '--listing', path, '--port', '0'], capture_output=True, text=True, timeout=240)
         judge(path, (1, '', f'agc-web: {path}: {why}\n'), (done.returncode, done.stdout, done.stderr))
     with open(os.path.join(folder, 'listing'), 'wb') as file:
         file.truncate(16_777_217)
     site = started(rope)
     judge('too long beside the rope: left out', False, site.state()['about']['listing'])
-    judge('and said', f'agc-web: {rope[:-4]}listing is left out: a listing has 16777216 bytes at most\n', site.end()[2])
+    judge('and said', f'agc-web: {rope[:-4]}listing is left out: it has more than 16777216 bytes\n', site.end()[2])
 
 
 def try_alarm():

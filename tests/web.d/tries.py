@@ -35,6 +35,8 @@ import guides
 import listed
 import listens
 import looks
+import nouns
+import quantities
 import rooms
 import storms
 import times
@@ -1539,7 +1541,7 @@ TRIES = (
     try_pace, try_writes, try_views, try_look, try_rate, try_latency, try_killed, try_end, try_blanks, try_two, try_command,
     try_serve, try_gone, try_hangup, try_lander, try_late_view, try_names_and_pictures, try_stop, try_random, try_face,
     try_client, try_install, *ends.TRIES, *rooms.TRIES, *times.TRIES, *views.TRIES, *buttons.TRIES, *filmed.TRIES, *found.TRIES,
-    *guides.TRIES, *whys.TRIES, *listens.TRIES, *listed.TRIES, *looks.TRIES, *storms.TRIES,
+    *guides.TRIES, *whys.TRIES, *listens.TRIES, *listed.TRIES, *looks.TRIES, *quantities.TRIES, *nouns.TRIES, *storms.TRIES,
 )
 
 

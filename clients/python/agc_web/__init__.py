@@ -12,7 +12,7 @@ The parts need only Python's standard library. `session.py` is the one machine b
 `clock.py` its pace, `keyboard.py` the keys that wait, `ticks.py` the instruments, `journal.py` the events of which the script
 is made, `rewinder.py` going back, `breakpoints.py` breakpoints, `news.py` what is shown. `server.py` sends news to the page
 by a WebSocket (`stream.py`) and takes JSON from it, from those that `gate.py` lets in; `film.py` has films made.
-`command.py` has the command line and `serve`, `beside.py` finds names, tables and listings, `ending.py` the signals, `saving.py` what becomes of the script.
+`command.py` has the command line and `serve`, `beside.py` finds names, tables and texts for the page, `ending.py` the signals, `saving.py` what becomes of the script.
 `instruments.py` and `protocol.py` serve the sockets of docs/INSTRUMENTS.md. `page/web`
 is the page, `page/face` the DSKY's face, which films have too, `page/film` the rest of a film's page (`view.html` shows what
 instruments showed; `film.py` adds it): after a change of these two run `page/generate`, which writes the film's page into its crate (`--check` compares), and prove that crate

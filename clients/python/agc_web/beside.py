@@ -1,7 +1,8 @@
-"""Files beside a rope's: its names, the SPEC of the Executive's tables, guided steps, and the listing of its source.
+"""Files beside a rope's: its names, the SPEC of the Executive's tables, and texts for the page: guided steps, the listing of its
+source, quantities, and verbs and nouns.
 
-For the rope X these are the files X.names, X.watch, X.guide and X.listing; for a file that is called `rope` also `names`,
-`watch`, `guide` and `listing`.
+For the rope X these are the files X.names, X.watch, X.guide, X.listing, X.quantities and X.nouns; for a file that is called `rope` also
+`names`, `watch` and so on, and for Y.rope also Y.names, Y.watch and so on.
 """
 
 import atexit
@@ -9,7 +10,7 @@ import os
 import shutil
 import tempfile
 from contextlib import suppress
-from typing import Callable, NamedTuple, Optional, Tuple
+from typing import Callable, Dict, Mapping, NamedTuple, Optional, Tuple
 
 import agc
 
@@ -20,15 +21,18 @@ Note = Callable[[str], None]
 """Says something to the user."""
 
 LONGEST_SPEC = 200  # characters
-LONGEST = {"guide": 65536, "listing": 16_777_216}  # bytes
+LONGEST = {"guide": 65536, "listing": 16_777_216, "quantities": 1_048_576, "nouns": 65536}  # bytes
 
 
 class Beside(NamedTuple):
-    """A file of names, the tables' SPEC, and the text of a listing; None for what there is not."""
+    """A file of names, the tables' SPEC, and the texts for the page; None for what there is not."""
 
     names: Optional[str] = None
     watch: Optional[str] = None
+    guide: Optional[str] = None
     listing: Optional[str] = None
+    quantities: Optional[str] = None
+    nouns: Optional[str] = None
 
 
 def opened(start: Start, named: Beside, rope: agc.Path, note: Note) -> Tuple[agc.Console, Beside]:
@@ -40,15 +44,20 @@ def opened(start: Start, named: Beside, rope: agc.Path, note: Note) -> Tuple[agc
     console, names = _with_names(start, named.names, found, note)
     try:
         watch = _with_tables(console, named.watch, _first_line(_file_beside(path, "watch")), note)
-        return console, Beside(names, watch, named.listing)
+        return console, named._replace(names=names, watch=watch)
     except agc.Error:
         console.close()
         raise
 
 
+def texts_of(named: Mapping[str, Optional[str]], rope: agc.Path, note: Note) -> Dict[str, Optional[str]]:
+    """Returns the texts for the page by their kinds: of the files that were named, else of those beside the rope; None if there is
+    none. If a file beside the rope cannot be read, `note` says why. Raises `OSError` for one that was named."""
+    return {kind: text_of(kind, named.get(kind), rope, note) for kind in LONGEST}
+
+
 def text_of(kind: str, named: Optional[str], rope: agc.Path, note: Note) -> Optional[str]:
-    """Returns the text of guided steps or of a listing: of the file that was named, else of the one beside the rope; None if
-    there is none. If the file beside the rope cannot be read, `note` says why. Raises `OSError` for one that was named."""
+    """Returns the text of one kind."""
     path = named if named is not None else _file_beside(os.fspath(rope), kind)
     if path is None:
         return None
@@ -56,7 +65,7 @@ def text_of(kind: str, named: Optional[str], rope: agc.Path, note: Note) -> Opti
         with open(path, "rb") as file:
             text = file.read(LONGEST[kind] + 1)
         if len(text) > LONGEST[kind]:
-            raise OSError(0, f"a {kind} has {LONGEST[kind]} bytes at most", path)
+            raise OSError(0, f"it has more than {LONGEST[kind]} bytes", path)
     except OSError as error:
         if named is not None:
             raise OSError(error.errno or 0, error.strerror or str(error), path) from None
@@ -111,9 +120,11 @@ def _reason(refused: agc.Error) -> str:
 
 def _file_beside(rope: str, kind: str) -> Optional[str]:
     """Returns the path of a file beside a rope's, if there is one."""
-    folder, name = os.path.split(rope)
-    paths = [f"{rope}.{kind}"] + ([os.path.join(folder, kind)] if name == "rope" else [])
-    return next((path for path in paths if os.path.isfile(path)), None)
+    if os.path.basename(rope) == "rope":
+        other = os.path.join(os.path.dirname(rope), kind)
+    else:
+        other = f"{rope[:-5]}.{kind}" if rope.endswith(".rope") else ""
+    return next((path for path in (f"{rope}.{kind}", other) if os.path.isfile(path)), None)
 
 
 def _first_line(path: Optional[str]) -> Optional[str]:

@@ -12,7 +12,7 @@ from contextlib import suppress
 from typing import Any, Callable, Dict, List, Optional, Sequence, Tuple
 
 import agc
-from agc_web.beside import Beside, opened, text_of
+from agc_web.beside import Beside, opened, texts_of
 from agc_web.clock import SPEEDS
 from agc_web.ending import UNSAVED, Ending
 from agc_web.film import Films
@@ -37,6 +37,8 @@ def serve(
     names: Optional[str] = None,
     guide: Optional[str] = None,
     listing: Optional[str] = None,
+    quantities: Optional[str] = None,
+    nouns: Optional[str] = None,
     form: Optional[str] = None,
     save: Optional[str] = None,
     open_page: bool = False,
@@ -48,7 +50,7 @@ def serve(
     The console is at cycle 0, and `detached`. `instruments` are described in agc_web.ticks. The port is 8437, or
     a free one if that is taken and none is named. `listen` is the
     address, which other computers may reach: then the page has the printed address in large letters. `guide` is the text of
-    guided steps, `listing` that of the source's listing. `begin` is called with the session before time can run. Raises
+    guided steps, `listing` that of the source's listing, `quantities` that of quantities, `nouns` that of verbs and nouns. `begin` is called with the session before time can run. Raises
     `OSError` if the port cannot be had, or if the script cannot be saved or would replace something; its `filename` says
     which of them. A signal that comes after the script was saved or printed ends the program at once."""
     file = ScriptFile(save) if save is not None else None
@@ -58,7 +60,8 @@ def serve(
         ending.kill = lambda: _kill(console, films)
         server = None
         try:
-            about = {**_about(console, names, watch, guide), "listing": listing is not None}
+            texts = {"guide": guide, "quantities": quantities, "nouns": nouns, "listing": listing is not None}
+            about = {**_about(console, names, watch), **texts}
             server = _bound(session, about, port, films, listen)
             server.source = {"listing": listing, "rope": b64encode(console.rope_bytes or b"").decode(), "form": form}
             if begin is not None:
@@ -79,15 +82,15 @@ def main(words: Optional[List[str]] = None) -> int:
     try:
         if asked.save is not None:
             ScriptFile(asked.save)
-        guide, listing = (text_of(kind, vars(asked)[kind], asked.rope, _say) for kind in ("guide", "listing"))
+        texts = texts_of(vars(asked), asked.rope, _say)
     except OSError as error:
         return _refused(f"{error.filename}: {error.strerror}", REFUSED)
     try:
         start = lambda names: agc.Console(asked.rope, asked.script, form=asked.form, names=names, detached=True)
-        console, found = opened(start, Beside(asked.names, asked.watch, listing), asked.rope, _say)
+        console, found = opened(start, Beside(asked.names, asked.watch, **texts), asked.rope, _say)
         with console:
             serve(
-                console, port=asked.port, guide=guide, form=asked.form, **found._asdict(),
+                console, port=asked.port, form=asked.form, **found._asdict(),
                 save=asked.save, open_page=asked.open, listen=asked.listen, begin=attached(asked.instruments, asked.listen),
             )
     except agc.Error as error:
@@ -120,6 +123,8 @@ def _arguments() -> argparse.ArgumentParser:
     words.add_argument("--watch", metavar="SPEC", help="where the Executive's tables stand, as for agc (the file ROPE.watch, or watch)")
     words.add_argument("--guide", metavar="FILE", help="a file of guided steps (ROPE.guide, or guide beside a file rope)")
     words.add_argument("--listing", metavar="FILE", help="the source's lines, by agc-study weave --write-listing (ROPE.listing, or listing)")
+    words.add_argument("--quantities", metavar="FILE", help="what cells hold, in units (ROPE.quantities, or quantities beside a file rope)")
+    words.add_argument("--nouns", metavar="FILE", help="what verbs and nouns are, in words (ROPE.nouns, or nouns beside a file rope)")
     words.add_argument("--form", metavar="FORM", choices=("classic", "parity"), help="the rope's form: classic or parity")
     words.add_argument("--port", metavar="N", type=int, help=f"the port ({PORT}, or a free one)")
     words.add_argument("--listen", metavar="ADDRESS", default=HERE, help=f"the address of page and instruments ({HERE})")
@@ -144,12 +149,12 @@ def attached(port: Optional[int], listen: str = HERE) -> Optional[Callable[[Sess
     return lambda session: instruments.attach(session, first, listen)
 
 
-def _about(console: agc.Console, names: Optional[str], watch: Optional[str], guide: Optional[str]) -> Dict[str, Any]:
+def _about(console: agc.Console, names: Optional[str], watch: Optional[str]) -> Dict[str, Any]:
     """Returns the first message to the page."""
     places = _places_in(names)
     return {
         "rope": os.fspath(console.rope), "names": [name for _, name in places], "places": [place for place, _ in places],
-        "watch": watch, "speeds": SPEEDS, "history": HISTORY, "guide": guide,
+        "watch": watch, "speeds": SPEEDS, "history": HISTORY,
     }
 
 

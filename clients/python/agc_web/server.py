@@ -9,6 +9,7 @@ import io
 import ipaddress
 import json
 import os
+import re
 import socket
 import sys
 import threading
@@ -30,6 +31,7 @@ ANYWHERE = "0.0.0.0"
 PAGE = os.path.join(os.path.dirname(os.path.abspath(__file__)), "page")
 LONGEST_BODY = 4096  # bytes
 MOST_LOOKS = 64  # cells or channels of one look
+CELL = re.compile(r"([!-~]+)(?: ([2-6]))?\Z")  # a place, and how many cells from there on if it is not one
 WHOLE = 10  # seconds that a whole request may take
 PATIENCE = 20  # seconds that a browser may take between two requests, or to take a part of an answer
 HEARTBEAT = 5  # seconds after which a quiet stream sends a ping, which shows whether its browser is still there
@@ -37,14 +39,7 @@ TYPES = {
     ".html": "text/html; charset=utf-8", ".css": "text/css; charset=utf-8", ".js": "text/javascript; charset=utf-8",
     ".svg": "image/svg+xml",
 }
-FILES = {
-    name: os.path.join(PAGE, *name.split("/"))
-    for name in (
-        "face/face.css", "web/view.css", "web/web.css", "web/listing.css", "web/phone.css", "face/shapes.js", "face/draw.js", "face/show.js",
-        "web/session.js", "web/elements.js", "web/words.js", "web/dsky.js", "web/inspector.js", "web/drawing.js", "web/view.js",
-        "web/instruments.js", "web/guide.js", "web/why.js", "web/listing.js", "web/lines.js", "web/web.js", "web/icon.svg",
-    )
-}
+NAMED = re.compile(r'(?:src|href)="([a-z]+/[a-z]+\.[a-z]+)"')  # a file that the page names
 POLICY = (
     "default-src 'none'; script-src 'self'; style-src 'self'; connect-src 'self' {streams}; img-src 'self'; "
     "base-uri 'none'; form-action 'none'; frame-ancestors 'none'"
@@ -338,8 +333,8 @@ class Handler(BaseHTTPRequestHandler):
             self._send_film()
         elif path == "/source":
             self._send_json(self.server.source)
-        elif path[1:] in FILES:
-            with open(FILES[path[1:]], "rb") as file:
+        elif path[1:] in NAMED.findall(_page()):
+            with open(os.path.join(PAGE, *path.split("/")), "rb") as file:
                 self._send(file.read(), TYPES[os.path.splitext(path)[1]])
         else:
             raise BadRequest(HTTPStatus.NOT_FOUND, "there is no such page")
@@ -350,8 +345,7 @@ class Handler(BaseHTTPRequestHandler):
             cookie = f"{self.server.cookie_name}={self.server.gate.cookie}; Path=/; HttpOnly; SameSite=Strict"
             self._send(b"", TYPES[".html"], HTTPStatus.SEE_OTHER, Location="/", Set_Cookie=cookie)
             return
-        with open(os.path.join(PAGE, "web", "index.html"), "rb") as file:
-            self._send(file.read(), TYPES[".html"])
+        self._send(_page().encode(), TYPES[".html"])
 
     def _send_news(self) -> None:
         """Sends what changes, as long as the browser listens: at most fifty messages a second."""
@@ -439,6 +433,12 @@ class Handler(BaseHTTPRequestHandler):
             end = time.monotonic() + 1
             while time.monotonic() < end and self.connection.recv(65536):
                 pass
+
+
+def _page() -> str:
+    """Returns the text of the page."""
+    with open(os.path.join(PAGE, "web", "index.html"), encoding="utf-8") as file:
+        return file.read()
 
 
 def is_reachable(address: str) -> bool:
@@ -534,10 +534,12 @@ def found_before(session: Session, body: Dict[str, Any]) -> Dict[str, int]:
 
 
 def word_at(console: Console, place: str) -> Any:
-    """Returns the word of a cell, or why it cannot be read."""
-    if not place.isascii() or not place.isprintable() or len(place.split()) != 1:
+    """Returns the word of a cell, or the words of `PLACE COUNT`, or why they cannot be read."""
+    found = CELL.match(place)
+    if not found:
         return "a cell is one word"
     try:
-        return console.cell(place)
+        words = console.cells(found[1], int(found[2] or 1))
+        return words if found[2] else words[0]
     except Refused as refused:
         return str(refused)

@@ -7,4 +7,5 @@ pub mod Filmed
 pub mod Traced
 pub mod Counted
 pub mod Watched
+pub mod Sampled
 pub mod Ended

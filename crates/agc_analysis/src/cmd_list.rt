@@ -8,7 +8,7 @@ ghost use Rattle.agc_analysis.specs.Fault.{IsReported};
 
 use crate::fault::FAULTY;
 use crate::inputs::read_symbols;
-use crate::interpretive_list::{Spoken, interpretive_list, spoken_by};
+use crate::interpretive_list::{InterpretiveCode, interpretive_list, requested_code};
 use crate::rope_bytes::special_list;
 use crate::ropes::text_of_rope;
 use crate::streams::Streams;
@@ -36,14 +36,14 @@ where
         Err(status) => return status,
     };
     let form = LineForm::new(rt.alloc(), names, None);
-    let spoken = match spoken_by(rt.alloc(), &form.names, args) {
-        Ok(spoken) => spoken,
+    let code = match requested_code(rt, &form.names, args) {
+        Ok(code) => code,
         Err(fault) => return exit_usage(NAME, fault, FAULTY, &mut io.out, &mut io.err),
     };
     let mut rope = open_file(rt, &args.rope, ROPE_BYTES);
     let is_special = args.ignores_parity || args.shows_zeros || args.first_bank.is_some();
-    let status = if !matches!(spoken, Spoken::Nothing) {
-        write_interpretive(rt.alloc(), args, &form, &spoken, &mut rope, io)
+    let status = if !matches!(code, InterpretiveCode::Nothing) {
+        write_interpretive(rt.alloc(), args, &form, &code, &mut rope, io)
     } else if is_special {
         write_special(rt.alloc(), args, &form, &mut rope, io)
     } else {
@@ -58,16 +58,16 @@ fn write_interpretive<R: Read, W: Write, E: Write, N: Write, P>(
     alloc: Global,
     args: &ListArgs,
     form: &LineForm,
-    spoken: &Spoken,
+    code: &InterpretiveCode,
     rope: &mut R,
     io: &mut Streams<W, E, N, P>,
 ) -> u8
     ensures ended { EndsWith W.contents E.contents result io.old io.new }
     ensures faulty { result ≢ 1 }
 {
-    match interpretive_list(alloc, args, &form.names, spoken, rope) {
+    match interpretive_list(alloc, args, &form.names, code, rope) {
         Ok(text) => {
-            remark_uncalled(spoken, text.is_empty(), &mut io.remarks);
+            remark_uncalled(code, text.is_empty(), &mut io.remarks);
             status_of(OK, write_in_full(&mut io.out, text.as_bytes()))
         }
         Err(fault) => fault.report_to(&mut io.err),
@@ -75,8 +75,8 @@ fn write_interpretive<R: Read, W: Write, E: Write, N: Write, P>(
 }
 
 /// Writes a remark if no word calls the interpreter.
-fn remark_uncalled<N: Write>(spoken: &Spoken, is_empty: bool, remarks: &mut N) {
-    if let Spoken::Called(address) = spoken {
+fn remark_uncalled<N: Write>(code: &InterpretiveCode, is_empty: bool, remarks: &mut N) {
+    if let InterpretiveCode::BehindCalls(address) = code {
         if is_empty {
             let _written = writeln!(
                 remarks,

@@ -16,6 +16,7 @@ pub enum Args {
     Trace(TraceArgs),
     Profile(ProfileArgs),
     Jobs(JobsArgs),
+    Sample(SampleArgs),
     Compare(CompareArgs),
     Film(FilmArgs),
     Convert(ConvertArgs),
@@ -145,6 +146,33 @@ pub struct JobsArgs {
     pub span: Span,
     /// The symbol file (`--names`).
     pub names: Option<String>,
+}
+
+/// Which states of a run `sample` prints.
+#[derive(Debug, Drop)]
+pub enum SampleTimes {
+    /// One each time that the cycle has reached a multiple of this number (`--every`).
+    Every(u64),
+    /// Those in which the order at a place comes next: the value of `--at`.
+    At(String),
+    /// Those in which a word of a quantity has changed (`--changes`).
+    Changes,
+}
+
+/// Arguments of `sample`: a run whose quantities are printed.
+#[derive(Debug, Drop)]
+pub struct SampleArgs {
+    pub files: RunFiles,
+    pub options: RunOptions,
+    /// The file of quantities (`--quantities`).
+    pub quantities: String,
+    pub times: SampleTimes,
+    /// The range of cycles in which states are printed.
+    pub span: Span,
+    /// The symbol file (`--names`).
+    pub names: Option<String>,
+    /// Whether a zero whose first word is -0 is printed as `-0` (`--zeros`).
+    pub shows_minus_zero: bool,
 }
 
 /// Arguments of `compare`: two runs.

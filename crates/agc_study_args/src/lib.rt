@@ -16,11 +16,11 @@ mod words_apart;
 pub use args::{
     Args, CheckArgs, CompareArgs, ConvertArgs, DumpArgs, FilmArgs, JobsArgs, ListArgs, ListStyle,
     MOST_DUMPS, MergeArgs, NAME, ObservedArgs, PatchArgs, ProfileArgs, RepairArgs, RunOptions,
-    SumsArgs, TraceArgs, WeaveArgs, WordsArgs,
+    SampleArgs, SampleTimes, SumsArgs, TraceArgs, WeaveArgs, WordsArgs,
 };
 pub use conversion::{ConvertedRope, convert_rope, read_dump};
 pub use laws::{a_listed_operand_is_addressed, a_run_stops_at_the_resolved_location};
-pub use locations::{LocationOption, resolve_locations};
+pub use locations::{LocationOption, resolve_at, resolve_locations};
 pub use named_list::list_with_names;
 pub use read_file::{ReadFile, open_file, remark_on_file};
 pub use rope_read::{RopeRead, read_any_rope};

@@ -1,6 +1,8 @@
 //! Resolves the locations, cells and channels that `trace` selects with `--at`, `--cell` and `--channel`.
 ghost use Rattle.std.specs.Prelude.{◌≡◌, ◌∷◌, ◌++◌, [], IfErr, IfOk, Ok, OnOk, is_some, string_bytes};
 ghost use Rattle.agc_symbols.specs.Channels.{name_of_channel};
+ghost use Rattle.agc_symbols.specs.Resolve.{resolve_range};
+ghost use Rattle.agc_study_args.specs.Joined.{joined};
 ghost use Rattle.agc_study_args.specs.Locations.{
   AddsChannels,
   AreResolved,
@@ -84,6 +86,22 @@ pub fn resolve_locations(
     push_channels(alloc, names, channels, channel, &mut selection.channels)?;
     resolve_until(alloc, names, &mut args.options.until)?;
     Ok(())
+}
+
+/// Resolves the only value of `--at` with these symbols. A value that names no location is a command-line error.
+pub fn resolve_at(
+    alloc: Global,
+    names: &Option<SymbolTable>,
+    text: &str,
+) -> Result<LocationRange, ArgsFault>
+    ensures { IfOk result (λ places. resolve_range names.now (joined text.now) ≡ Ok places) }
+{
+    let option = LocationOption::At;
+    let whole = joined(alloc, text.as_bytes())?;
+    match option.resolve(names, whole.as_slice()) {
+        Ok(places) => Ok(places),
+        Err(why) => Err(unresolved(alloc, option, names, &ChannelTable::new(alloc), text, why)),
+    }
 }
 
 /// Resolves the values of an option and appends them.

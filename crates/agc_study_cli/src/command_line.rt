@@ -38,6 +38,7 @@ fn subcommands<'a>(alloc: Global) -> Subcommands<'a> {
         .trace_command()
         .profile_command()
         .jobs_command()
+        .sample_command()
         .compare_command()
         .film_command()
         .convert_command()
@@ -60,7 +61,7 @@ impl<'a> Subcommands<'a> {
             .repeated(
                 "interpretive",
                 "PLACES",
-                "Print only these words, as interpretive code: 05,2071-05,2107, or names; repeatable",
+                "Print only these words, as interpretive code: 05,2071-05,2107, names, or @FILE with one a line; repeatable",
             )
             .option(
                 "follow",
@@ -188,6 +189,41 @@ impl<'a> Subcommands<'a> {
             "jobs",
             "Runs a rope and a script, and prints each change of the Executive's tables.",
             "Example:\n  agc-study jobs examples/study/jobs-sets/rope examples/study/jobs-sets/script --limit 40 --watch 0,100,2,0,130,0,140",
+            words,
+        )
+    }
+
+    fn sample_command(self) -> Subcommands<'a> {
+        let words = ArgList::none(self.alloc)
+            .rope_file(true)
+            .script_file(true)
+            .limit_option()
+            .quantities_option()
+            .number(
+                "every",
+                "CYCLES",
+                "Print a row each time that the cycle reaches a multiple of this number: decimal, from 1",
+            )
+            .option(
+                "at",
+                "PLACES",
+                "Print a row before each order here: octal 4100, 05,2071, E3,1400 or 4100-4177, or names",
+            )
+            .flag(
+                "changes",
+                "Print a row each time that a word of a quantity changes",
+            )
+            .wrong_parity_option()
+            .form_option()
+            .until_named()
+            .cycle_option("from", FIRST_PRINTED)
+            .cycle_option("to", LAST_PRINTED)
+            .names_option("Accept names from this file (a line for each, PLACE NAME) as places")
+            .flag("zeros", "Print zero as -0 if its first word is -0");
+        self.with(
+            "sample",
+            "Runs a rope and a script, and prints quantities of the program as a table of values over time.",
+            "Example:\n  agc-study sample examples/study/sample-every/rope examples/study/sample-every/script --limit 30 --quantities examples/study/sample-every/quantities --every 10",
             words,
         )
     }
@@ -540,6 +576,17 @@ impl<'a> ArgList<'a> {
             "Print only orders that write to channels, only interrupts and RESUMEs, or only jumps",
         )
         .value_parser(KINDS.as_slice());
+        self.with(arg)
+    }
+
+    fn quantities_option(self) -> ArgList<'a> {
+        let arg = option(
+            self.alloc,
+            "quantities",
+            "FILE",
+            "Quantities: a line for each, NAME PLACE KIND SCALE, and a unit; # starts a comment",
+        )
+        .required(true);
         self.with(arg)
     }
 

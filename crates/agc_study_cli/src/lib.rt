@@ -8,6 +8,7 @@ mod merge;
 mod profile;
 mod restore;
 mod runs;
+mod sample;
 mod shown;
 mod values;
 mod words;

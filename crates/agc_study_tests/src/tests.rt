@@ -5,6 +5,7 @@ mod check;
 mod compare;
 mod count;
 mod film;
+mod includes;
 mod jobs;
 mod merging;
 mod misnamed;

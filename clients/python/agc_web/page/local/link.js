@@ -41,8 +41,9 @@ function linkedFiles(files) {
   const { rope, ...rest } = storedFiles(files);
   const from = EXAMPLES[files.example];
   if (rope !== from?.rope) return { rope, ...rest };
-  const { script, guide, ...others } = rest;
-  return { ...others, ...(script !== (from.script ?? '') && { script }), ...(guide !== from.guide && { guide }), sum: sumOf(rope) };
+  const { script, guide, quantities, nouns, ...others } = rest;
+  const own = Object.entries({ script, guide, quantities, nouns }).filter(([kind, text]) => (text ?? '') !== (from[kind] ?? ''));
+  return { ...others, ...Object.fromEntries(own), sum: sumOf(rope) };
 }
 
 // The address of this page with the session behind it, and the guide that is followed; throws an error if that would be too long.

@@ -5,7 +5,13 @@ const EXAMPLES = JSON.parse(dataOf('examples')); // by name {title, about, rope,
 const FIRST = 'verbs';
 const OFFERED = [['descent', ''], ['descent', 'Land with alarm 1202'], ['count-1', '']]; // by the strip: an example, and a guide that is not its first
 const LARGEST_FILE = 4e6; // bytes
-const SCRIPT_LINE = /^\s*(#|\d+\s+(key|pro|input|pulse|raise|poke)\b|$)/;
+const SHOWN_ALONE = ['quantities', 'nouns'];
+// What each line of a file begins with, by its kind.
+const LINE_OF = {
+  script: /^\s*(#|\d+\s+(key|pro|input|pulse|raise|poke)\b|$)/,
+  quantities: /^\s*(#|[A-Za-z]\S*\s+\S+\s+(single|double|triple|vector|unsigned|bits)\s|$)/,
+  nouns: /^\s*(#|(verb|noun) \d\d\s|$)/,
+};
 
 // Shows a sentence to the user, above the page, until it is closed.
 function say(text) {
@@ -78,14 +84,15 @@ async function openKept() {
 
 // files of the user
 
-// What a file is, by its name or what is in it: a rope, script, names, the tables' SPEC, guided steps, or a listing.
+// What a file is, by its name or what is in it: a rope, script, names, the tables' SPEC, guided steps, quantities, nouns, or a listing.
 function kindOf(name, bytes) {
-  const kind = name.toLowerCase().match(/(^|\.)(rope|script|names|watch|guide|listing)(\.txt)?$/)?.[2];
+  const kind = name.toLowerCase().match(/(^|\.)(rope|script|names|watch|guide|quantities|nouns|listing)(\.txt)?$/)?.[2];
   if (kind) return kind;
   const text = new TextDecoder().decode(bytes.subarray(0, 1e5));
   if (isListing(text)) return 'listing';
   if (!/^[\t\n\r -~]+$/.test(text)) return 'rope';
-  return text.split('\n').slice(0, -1).every((line) => SCRIPT_LINE.test(line)) ? 'script' : 'names';
+  const lines = text.split(/\r?\n/).slice(0, -1);
+  return Object.keys(LINE_OF).find((each) => lines.every((line) => LINE_OF[each].test(line))) ?? 'names';
 }
 
 // Opens the files of a list: a rope, or what goes with the rope that is open.
@@ -109,14 +116,24 @@ async function openFiles(list) {
     found[kind] = { name: file.name, bytes, text: new TextDecoder().decode(bytes) };
   }
   if (!Object.keys(found).length) return;
-  const { rope, script, names, watch, guide } = found;
+  const { rope, watch } = found;
   const before = rope ? { title: rope.name.slice(-100), rope: rope.bytes, example: null, instrument: null, options: null } : session.files;
+  const own = (kind) => found[kind]?.text ?? (rope ? null : before[kind]);
   const files = {
-    ...before, script: script?.text ?? (rope ? '' : before.script), names: names?.text ?? (rope ? null : before.names),
-    watch: watch?.text.split('\n')[0].trim() ?? (rope ? null : before.watch),
-    guide: guide?.text ?? (rope ? null : before.guide), listing: found.listing?.text ?? (rope ? null : before.listing), form: find('parity').checked ? 'parity' : null,
+    ...before, script: own('script') ?? '', names: own('names'), watch: watch?.text.split('\n')[0].trim() ?? own('watch'), guide: own('guide'),
+    quantities: own('quantities'), nouns: own('nouns'), listing: own('listing'), form: find('parity').checked ? 'parity' : null,
   };
-  if (await openAndSay(files, null, '')) beginToKeep();
+  if (Object.keys(found).every((kind) => SHOWN_ALONE.includes(kind))) showWith(files);
+  else if (await openAndSay(files, null, '')) beginToKeep();
+}
+
+// Shows the session that is open with other texts that only the page needs, and the same tab, if others come beside it.
+function showWith(files) {
+  const { tab } = inspector;
+  session.files = files;
+  showNews({ about: { ...shown.about, ...Object.fromEntries(SHOWN_ALONE.map((kind) => [kind, files[kind]])) } });
+  if (find(`${tab}-tab`)) showTab(tab);
+  beginToKeep();
 }
 
 // the dialog
@@ -202,13 +219,6 @@ function showOpening() {
 function forgetAndSay() {
   forget();
   say('This browser keeps no session now. The one that is shown goes on, and a reload loses it.');
-}
-
-// Has the browser download a text.
-async function download(name, text) {
-  const address = URL.createObjectURL(new Blob([await text], { type: 'text/plain' }));
-  make('a', { href: address, download: name }).click();
-  setTimeout(() => URL.revokeObjectURL(address), 1000);
 }
 
 // Opens a film of the session in a tab of its own, at once, because a browser opens none later; without one it is downloaded.

@@ -44,6 +44,7 @@ class Engine {
 
   close() {
     this.#worker.terminate();
+    for (const done of this.#calls.values()) done({ status: 409, error: '' }); // nobody waits for an answer that never comes
   }
 
   #take({ id, answer, news }) {
@@ -82,7 +83,7 @@ async function callEngine(call, body) {
 
 const session = {
   lost: 'The machine has failed. Reload the page: what this browser has kept is still there.',
-  files: null, // {title, rope, script, names, form, watch, guide, listing, example, instrument, options} of the session
+  files: null, // {title, rope, script, names, form, watch, guide, quantities, nouns, listing, example, instrument, options} of the session
 
   listen(news, reached) {
     page = { news, reached };
@@ -150,6 +151,8 @@ function resetPage() {
   find('watched').replaceChildren();
   Object.assign(guiding, { text: undefined, guide: null, at: 0 });
   Object.assign(why, { pending: null, darkAt: null, isExplained: false });
+  Object.assign(quantities, { about: null, rows: [] });
+  Object.assign(plot, noCurves(), { epoch: plot.epoch + 1 });
   Object.assign(inspector, { tab: 'orders', cycle: -1, events: -1, watched: [] });
   for (const cell of document.querySelectorAll('#memory tbody td, #channels .word')) cell.textContent = '';
 }

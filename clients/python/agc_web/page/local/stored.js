@@ -24,6 +24,8 @@ const CHECKS = {
   script: (value) => isMissing(value) || isBrief(value, LONGEST_STORED),
   names: (value) => isMissing(value) || isBrief(value, LONGEST_STORED),
   guide: (value) => isMissing(value) || isBrief(value, LONGEST_STORED),
+  quantities: (value) => isMissing(value) || isBrief(value, LONGEST_STORED),
+  nouns: (value) => isMissing(value) || isBrief(value, LONGEST_STORED),
   form: (value) => isMissing(value) || ['classic', 'parity'].includes(value),
   watch: (value) => isMissing(value) || (isBrief(value) && /^[0-7,]+$/.test(value)),
   example: (value) => isMissing(value) || (isBrief(value) && Object.hasOwn(EXAMPLES, value)),
@@ -55,12 +57,12 @@ function readSession(text) {
   return { files: filesOf(value), kept: keptOf(value) };
 }
 
-function filesOf({ title, rope, script, names, form, watch, guide, example, options }) {
+function filesOf({ title, rope, script, names, form, watch, guide, quantities, nouns, example, options }) {
   const from = example ? EXAMPLES[example] : {};
   if (!rope && !from.rope) throw new Error('it has no rope');
   return {
     title, rope: bytesOf(rope ?? from.rope), script: script ?? from.script ?? '', names: names ?? null, form: form ?? null, watch: watch ?? null,
-    guide: guide ?? from.guide ?? null, listing: null, example: example ?? null, instrument: from.instrument ?? null, options: options ?? null,
+    guide: guide ?? from.guide ?? null, quantities: quantities ?? from.quantities ?? null, nouns: nouns ?? from.nouns ?? null, listing: null, example: example ?? null, instrument: from.instrument ?? null, options: options ?? null,
   };
 }
 
@@ -73,8 +75,8 @@ function keptOf({ cycle, events, controls, speed, breakpoints }) {
 }
 
 // The files of the session, as they are stored.
-function storedFiles({ title, rope, script, names, form, watch, guide, example }) {
-  return { title, rope: base64Of(rope), script, names, form, watch, guide, example };
+function storedFiles({ title, rope, script, names, form, watch, guide, quantities, nouns, example }) {
+  return { title, rope: base64Of(rope), script, names, form, watch, guide, quantities, nouns, example };
 }
 
 // What else is stored of it.

@@ -11,7 +11,7 @@ const CHANNELS = [
   [0o16, 'key of the navigation DSKY, marks'], [0o30, 'inputs: stage, engine, IMU'], [0o31, 'inputs: hand controllers, modes'],
   [0o32, 'inputs: thrusters, PRO'], [0o33, 'inputs: radar, optics, PIPA'], [0o34, 'downlink, first word'], [0o35, 'downlink, second word'],
 ];
-const TABS = { orders: 'Orders', memory: 'Memory', watch: 'Watch', channels: 'Channels', tables: 'Tables', why: 'Alarm', breaks: 'Breaks', script: 'Script', source: 'Source' };
+const TABS = { orders: 'Orders', memory: 'Memory', watch: 'Watch', plot: 'Plot', channels: 'Channels', tables: 'Tables', why: 'Alarm', breaks: 'Breaks', script: 'Script', source: 'Source' };
 
 const inspector = { tab: 'orders', bank: 0, words: null, watched: [], looking: false, stale: false, lookedAt: 0, cycle: -1, events: -1 };
 
@@ -40,6 +40,7 @@ function showTab(name) {
   showScript();
   scrollHistory();
   showListing();
+  drawSoon();
 }
 
 // The arrow keys go from tab to tab.
@@ -124,7 +125,8 @@ function showAhead(lines) {
 function wanted() {
   const { tab, bank, watched } = inspector;
   if (tab === 'memory') return [{ bank }];
-  if (tab === 'watch') return watched.flatMap((_, i) => (i % MOST_CELLS ? [] : [{ cells: watched.slice(i, i + MOST_CELLS) }]));
+  const all = [...watched, ...quantityCells()];
+  if (tab === 'watch') return all.flatMap((_, i) => (i % MOST_CELLS ? [] : [{ cells: all.slice(i, i + MOST_CELLS) }]));
   if (tab === 'channels') return [{ channels: CHANNELS.map(([number]) => number) }];
   return [];
 }
@@ -152,6 +154,7 @@ async function look() {
 
 function showWords({ bank, cells, channels }) {
   if (bank) showBank(bank);
+  showValues(cells);
   for (const [place, word] of Object.entries(cells)) {
     const row = find('watched').querySelector(`tr[data-place="${CSS.escape(place)}"]`);
     if (row) showCell(row, word);

@@ -21,7 +21,8 @@ const session = {
   // Has a command done. Returns the status, and `error` or `sure` if it was not done.
   do: (command, more) => post('do', { do: command, window: WINDOW, ...more }),
 
-  // Returns the status, and the words of an erasable bank, cells or channels.
+  // Returns the status, and the words of an erasable bank, of cells or channels: of a cell its word, of "PLACE COUNT" the words of so
+  // many cells, or a sentence that says why they cannot be read.
   look: (wanted) => post('look', wanted),
 
   // Searches backwards for the last boundary that hits one of `places`, in the words of the console's `back until`, before the

@@ -22,6 +22,8 @@ function showAbout(about) {
   setText(find('phones-address'), about.phones || '');
   keepNames(about);
   keepListing(about);
+  keepQuantities(about);
+  keepNouns(about);
   loadGuides(about.guide);
   showTabs(about);
   showListing(); // a stream that was lost begins anew, with the tab that is shown
@@ -29,7 +31,7 @@ function showAbout(about) {
 
 // Makes the tabs, those of instruments first. Instruments may come after what the session is about.
 function showTabs(about) {
-  const isOffered = { tables: () => about.watch, why: () => known(ALARMS).length, source: listing.isOffered };
+  const isOffered = { tables: () => about.watch, plot: () => about.quantities, why: () => known(ALARMS).length, source: listing.isOffered };
   const all = Object.keys(TABS).filter((tab) => find(`${tab}-panel`) && (!isOffered[tab] || isOffered[tab]()));
   const names = [...all.filter((tab) => tab.startsWith('instrument')), ...all.filter((tab) => !tab.startsWith('instrument'))];
   const shownNow = [...find('tabs').children].map((tab) => tab.id.replace(/-tab$/, ''));
@@ -55,6 +57,7 @@ function showTime(time) {
   showPro(time.pro);
   showTrouble();
   follow(time);
+  followPlot(time);
 }
 
 function showState() {
@@ -79,7 +82,10 @@ function showTrouble() {
 const SHOWS = {
   instruments: showInstruments,
   about: showAbout,
-  panel: showFace,
+  panel: (panel) => {
+    showFace(panel);
+    sayPanel(panel);
+  },
   machine: showMachine,
   tables: (lines) => setText(find('tables'), lines.join(LINE)),
   history: showHistory,
@@ -91,6 +97,7 @@ const SHOWS = {
 function showNews(parts) {
   Object.assign(shown, parts);
   for (const [part, show] of Object.entries(SHOWS)) if (part in parts) show(parts[part]);
+  if ('history' in parts) look(); // a step may have changed words at the same cycle
   followGuide();
   followWhy();
   followListing();
@@ -144,7 +151,7 @@ const SHORTCUTS = {
 function wantsKey(element, key) {
   if (document.querySelector('dialog[open]')) return true;
   if (element.closest('textarea, select, input:not([type=range])')) return true;
-  if (element.closest('input[type=range], [role=tablist]') && /^(Arrow|Home|End|Page)/.test(key)) return true;
+  if (element.closest('input[type=range], [role=tablist], [role=slider]') && /^(Arrow|Home|End|Page)/.test(key)) return true;
   return Boolean(element.closest('button, a')) && (key === ' ' || key === 'Enter');
 }
 
@@ -181,6 +188,7 @@ function start() {
   buildInspector();
   buildWhy();
   buildListing();
+  buildPlot();
   find('play').addEventListener('click', playOrPause);
   find('step').addEventListener('click', step);
   find('undo').addEventListener('click', undo);

@@ -16,6 +16,13 @@ function decimal(word, bits = 15) {
 
 const grouped = (number) => String(number).replace(/\B(?=(\d{3})+$)/g, ',');
 
+// Has the browser download a text.
+async function download(name, text) {
+  const address = URL.createObjectURL(new Blob([await text], { type: 'text/plain' }));
+  make('a', { href: address, download: name }).click();
+  setTimeout(() => URL.revokeObjectURL(address), 1000);
+}
+
 // Runs tasks one after another: a request is sent once the one before is answered, so that keys stay in their order.
 let turn = Promise.resolve();
 let pending = 0;

@@ -4,6 +4,7 @@ import { Fault, Unable } from './faults.js';
 
 const MOST_LOOKS = 64; // cells or channels of one look
 const BANK_WORDS = 256;
+const CELL = /^([!-~]+)(?: ([2-6]))?$/; // a place, and how many cells from there on if it is not one
 
 const octal = (number) => number.toString(8);
 const word = (answer) => parseInt(answer.lines[0].split(' ').at(-1), 8);
@@ -62,20 +63,30 @@ export function look(machine, { bank = null, cells = [], channels = [] }) {
       const { lines } = await console.say(`cell E${bank},1400 ${BANK_WORDS}`);
       found.bank = lines.map((line) => parseInt(line.slice(-5), 8));
     }
-    for (const place of cells) found.cells[place] = await wordAt(console, place);
+    const words = await wordsAt(console, cells);
+    cells.forEach((cell, i) => { found.cells[cell] = words[i]; });
     const answers = await console.sayAll(channels.map((each) => `channel ${octal(each)}`));
     answers.forEach((answer, i) => { found.channels[channels[i]] = word(answer); });
     return found;
   });
 }
 
-// Returns the word of a cell, or why it cannot be read.
-async function wordAt(console, place) {
-  if (!/^[!-~]+$/.test(place)) return 'a cell is one word';
+// Returns for each cell its word, or the words of "PLACE COUNT", or why they cannot be read. The console is asked once, or for each
+// cell again if it refuses one.
+async function wordsAt(console, cells) {
+  const parts = cells.map((cell) => cell.match(CELL));
   try {
-    return word(await console.say(`cell ${place} 1`));
+    if (parts.includes(null)) throw new Fault('a cell is one word');
+    const answers = await console.sayAll(parts.map(([, place, count]) => `cell ${place} ${count ?? 1}`));
+    return answers.map(({ lines }, i) => {
+      const words = lines.map((line) => parseInt(line.slice(-5), 8));
+      return parts[i][2] === undefined ? words[0] : words;
+    });
   } catch (error) {
-    if (error instanceof Fault) return error.message;
-    throw error;
+    if (!(error instanceof Fault)) throw error;
+    if (cells.length === 1) return [error.message];
   }
+  const found = [];
+  for (const cell of cells) found.push(...await wordsAt(console, [cell]));
+  return found;
 }

@@ -53,16 +53,16 @@ async function start(module, files) {
   return { console, names, watch, notes };
 }
 
-// Opens a session: {module, title, rope, script, names, form, watch, guide, listing, instrument, options, kept}; `listing` is whether the
-// page has one. Returns what is to be said.
-async function open({ module, title, guide, listing, instrument, options, kept, ...files }) {
+// Opens a session: {module, title, rope, script, names, form, watch, guide, quantities, nouns, listing, instrument, options, kept}; `listing`
+// is whether the page has one. Returns what is to be said.
+async function open({ module, title, guide, quantities, nouns, listing, instrument, options, kept, ...files }) {
   const { console, names, watch, notes } = await start(module, files);
   another = (script) => Console.start(module, { ...files, names, script });
   const base = (await console.say('script')).lines;
   machine = new Machine(console, { base, watch, instruments: makeInstruments(instrument, options), news: publish });
   if (kept) await machine.resume(kept);
   const found = placesIn(names);
-  publish('about', { rope: title, names: found.map(([, name]) => name), places: found.map(([place]) => place), watch, guide, listing });
+  publish('about', { rope: title, names: found.map(([, name]) => name), places: found.map(([place]) => place), watch, guide, quantities, nouns, listing });
   await machine.look();
   return { notes };
 }

@@ -1,0 +1,103 @@
+//! Parses a line of a file of quantities.
+ghost use Rattle.std.specs.Prelude.{◌≤◌, ◌<◌, ◌+◌, ◌%◌};
+ghost use Rattle.agc_store.specs.Places.{erasable_bank_size, erasable_cells};
+ghost use Rattle.agc_quantities.specs.Kind.{size_of};
+
+use crate::fault::LineFault;
+use crate::field::{is_name, is_unit, read_cell, read_kind};
+use crate::quantity::{Kind, Quantity};
+use agc_store::place::ERASABLE_BANK_SIZE;
+use agc_symbols::SymbolTable;
+use agc_word::next_word;
+
+/// A quantity, as read from a line.
+#[derive(Clone, Copy)]
+pub(crate) struct Parsed<'a> {
+    pub name: &'a str,
+    pub cell: u16,
+    pub kind: Kind,
+    ghost erasable: { cell < erasable_cells },
+    ghost in_bank: { cell % erasable_bank_size + size_of kind ≤ erasable_bank_size },
+}
+
+/// The fields of a line; the unit is empty if there is none.
+#[derive(Clone, Copy)]
+pub(crate) struct Fields<'a> {
+    pub name: &'a [u8],
+    pub place: &'a [u8],
+    pub kind: &'a [u8],
+    pub scale: &'a [u8],
+    pub unit: &'a [u8],
+}
+
+/// Parses a line; `None` if it has no fields. The quantities are those of earlier lines.
+pub(crate) fn read_line<'a>(
+    line: &'a [u8],
+    names: &Option<SymbolTable>,
+    earlier: &[Quantity],
+) -> Result<Option<Parsed<'a>>, LineFault> {
+    let Some(fields) = fields_of(line)? else {
+        return Ok(None);
+    };
+    let name = read_name(fields.name, earlier)?;
+    let cell = read_cell(names, fields.place)?;
+    let kind = read_kind(fields.kind, fields.scale)?;
+    if cell % ERASABLE_BANK_SIZE + kind.size() > ERASABLE_BANK_SIZE {
+        return Err(LineFault::PastBank);
+    }
+    if !is_unit(fields.unit) {
+        return Err(LineFault::BadUnit);
+    }
+    Ok(Some(Parsed { name, cell, kind }))
+}
+
+/// Returns the part of a line before its comment.
+fn without_comment(line: &[u8]) -> &[u8] {
+    match line.iter().position(|b| *b == b'#') {
+        Some(at) => &line[..at],
+        None => line,
+    }
+}
+
+/// Splits a line into its fields; `None` if it has none.
+pub(crate) fn fields_of(line: &[u8]) -> Result<Option<Fields<'_>>, LineFault> {
+    let Some((name, rest)) = next_word(without_comment(line)) else {
+        return Ok(None);
+    };
+    let (place, rest) = needed(next_word(rest))?;
+    let (kind, rest) = needed(next_word(rest))?;
+    let (scale, rest) = needed(next_word(rest))?;
+    let (unit, rest) = next_word(rest).unwrap_or((&[], &[]));
+    if next_word(rest).is_some() {
+        return Err(LineFault::TooManyFields);
+    }
+    Ok(Some(Fields {
+        name,
+        place,
+        kind,
+        scale,
+        unit,
+    }))
+}
+
+/// Returns a word and what follows it, or fails if there is no further field.
+fn needed<'a>(cut: Option<(&'a [u8], &'a [u8])>) -> Result<(&'a [u8], &'a [u8]), LineFault> {
+    match cut {
+        Some(cut) => Ok(cut),
+        None => Err(LineFault::TooFewFields),
+    }
+}
+
+/// Parses a name that no earlier line has.
+fn read_name<'a>(word: &'a [u8], earlier: &[Quantity]) -> Result<&'a str, LineFault> {
+    if !is_name(word) {
+        return Err(LineFault::BadName);
+    }
+    if earlier.iter().any(|other| other.name.as_bytes() == word) {
+        return Err(LineFault::NameTwice);
+    }
+    match str::from_utf8(word) {
+        Ok(name) => Ok(name),
+        Err(_) => Err(LineFault::BadName),
+    }
+}
