@@ -171,12 +171,14 @@ def try_bug():
         with Console(rope, file_of('script', page.site.script().encode()), names=NAMES, program=[CONSOLE]) as console:
             console.until('BAILOUT', within=3_000_000)
             areas = {place: console.cell(place) for place in ('VAC1USE', 'VAC5USE')}
-            free = [line for line in console.tables('0,200,10,0,340,0,350') if line.startswith('SET ') and not line.endswith('FREE')]
-        judge('at the alarm both areas are in use, and no job is there', ({'VAC1USE': 0, 'VAC5USE': 0}, []), (areas, free))
+            jobs = [line for line in console.tables('0,200,10,0,340,0,350') if line.startswith('SET ') and not line.endswith('FREE')]
+        judge('at the alarm both areas are in use', {'VAC1USE': 0, 'VAC5USE': 0}, areas)
+        check('at most the job of a key is there', len(jobs) <= 1)
         shows = "[...document.querySelectorAll('#watched tr')].map((each) => [each.dataset.place, each.children[1].textContent])"
         wanted = [[place, f'{word:05o}'] for place, word in areas.items()]
         judge('the page shows them', wanted, page.see(shows, wanted, 60))
-        judge('the tab Alarm', 'None of the 8 core sets is in use.', page.value("find('why-used').textContent"))
+        used = '1 of 8 core sets are in use, by these jobs:' if jobs else 'None of the 8 core sets is in use.'
+        judge('the tab Alarm', used, page.value("find('why-used').textContent"))
 
     def at_mask(is_new):
         """A has lost the address that PRIORITY has."""

@@ -10,6 +10,7 @@ import re
 import shutil
 import subprocess
 import sys
+import time
 
 from judge import STUDY, TOP, judge, scratch_folder
 from site_of import Site, example, started, wait
@@ -158,13 +159,20 @@ def try_lit():
 
 
 def click_line(window, line):
-    """Clicks a line, wherever the lines are scrolled."""
-    window.value(f'showLine({line}); undefined')
+    """Clicks a line, once it no longer moves: the page may still scroll to the line that was lit last."""
     place = f"""(() => {{
         const box = document.querySelector('[data-line="{line}"] .code').getBoundingClientRect();
         return [box.left + 40, (box.top + box.bottom) / 2];
     }})()"""
-    window.click(*window.value(place))
+    last = None
+    for _ in range(50):
+        window.value(f'showLine({line}); undefined')
+        time.sleep(0.1)
+        now = window.value(place)
+        if now == last:
+            break
+        last = now
+    window.click(*now)
 
 
 def try_pointed(site, window, lines, keyin):

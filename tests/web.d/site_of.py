@@ -8,9 +8,10 @@ import socket
 import subprocess
 import time
 
-from judge import TOP
+from judge import TOP, slowness
 
 LONGEST = 240  # seconds that anything may take, on a slow machine too
+USUAL = 90  # seconds that what a page shows may take, on a machine whose processors are free
 
 
 def example(*names):
@@ -201,8 +202,13 @@ class Site:
         return self.process.returncode, out, err
 
 
-def wait(predicate, seconds=LONGEST):
-    """Waits until something is so; returns whether it is. The looks become rarer, so that they hold nothing up."""
+def wait(predicate, seconds=None):
+    """Waits until something is so; returns whether it is. Without seconds that is for USUAL ones, longer on a slow machine."""
+    return looked(predicate, seconds or USUAL) or not seconds and looked(predicate, min(LONGEST, USUAL * slowness()) - USUAL)
+
+
+def looked(predicate, seconds):
+    """Looks for so many seconds whether something is so. The looks become rarer, so that they hold nothing up."""
     end, rest = time.monotonic() + seconds, 0.02
     while time.monotonic() < end:
         if predicate():

@@ -125,7 +125,7 @@ class Page:
     def type(self, *names):
         self.window.type(*names)
 
-    def see(self, script, wanted, seconds=LONGEST):
+    def see(self, script, wanted, seconds=None):
         """Waits until a script gives this; returns what it gave last."""
         wait(lambda: self.value(script) == wanted, seconds)
         return self.value(script)
@@ -1322,8 +1322,14 @@ def try_names_and_pictures():
     page.type('r')
     judge('time stops at it', 'at breakpoint: order at KEYIN', page.state('at breakpoint: order at KEYIN'))
     coming = ['4100 KEYIN', '4101 KEYIN +1', '4102 KEYIN +2', '4103 KEYIN +3', '4104 KEYIN +4', '4127 KEYS +18', '4235 RESET']
-    shown = lambda: [re.sub('  .*', '', line_of(page, '#ahead li', i).split(' ', 1)[1]) for i in range(7)]
-    wait(lambda: len(page.texts('#ahead li')) == 12 and shown() == coming)
+
+    def shown():
+        """The first seven orders to come, without their words. A timer may step between them."""
+        lines = [line_of(page, '#ahead li', i).split(' ', 1)[1] for i in range(len(page.texts('#ahead li')))]
+        return [re.sub('  .*', '', line) for line in lines if not line.startswith('- ')][:7]
+
+    wait(lambda: shown() == coming)
+    judge('twelve boundaries', 12, len(page.texts('#ahead li')))
     judge('the orders that come, by name', coming, shown())
     picture(page, 'web')
     page.click('#tables-tab')
