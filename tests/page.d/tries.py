@@ -3,10 +3,19 @@
 What is wanted is worked out by hand from the examples' sources and from docs/WEB.md, or is what agc and agc-console make of
 the script that the page lets one download.
 """
+import base64
+import contextlib
+import hashlib
+import functools
+import importlib.machinery
+import io
 import os
+import re
 import shutil
 import subprocess
 import time
+import types
+import zlib
 
 import exercises
 import flights
@@ -17,7 +26,7 @@ import randoms
 import source
 import twins
 from firefox import Firefox
-from judge import TOP, attempt, depends_on_time, finish, judge
+from judge import TOP, attempt, check, depends_on_time, finish, judge
 from local import FILE, LocalPage, LocalSite, web
 from site_of import example, keys_in, wait
 
@@ -26,7 +35,42 @@ def try_made():
     """The file is what launch/page makes of the page, the examples and the prebuilt program."""
     done = subprocess.run([os.path.join(TOP, 'launch', 'page'), '--check'], capture_output=True, text=True)
     judge('agc.html', (0, '2 passed, 0 failed\n', ''), (done.returncode, done.stdout, done.stderr))
-    judge('at most 8 MB', True, os.path.getsize(FILE) <= 8_000_000)
+    judge('at most 5 MB', True, os.path.getsize(FILE) <= 5_000_000)
+
+
+def repacked(text, change=bytes, more=b''):
+    """Returns a page whose modules are packed less, with a change of their bytes, and with more behind their ends."""
+    def again(found):
+        packed = zlib.compress(change(zlib.decompress(base64.b64decode(found[2]))), 1)
+        return found[1] + base64.b64encode(packed + more).decode()
+
+    return re.sub(r'(<script type="application/zlib;base64" id="[^"]*">)(.*?)(?=</script>)', again, text)
+
+
+def try_packed():
+    """A page that another zlib has packed is as right, and stays; one with other bytes inside is not."""
+    loader = importlib.machinery.SourceFileLoader('page', os.path.join(TOP, 'launch', 'page'))
+    maker = types.ModuleType(loader.name)
+    maker.__file__ = loader.path
+    loader.exec_module(maker)
+    maker.MADE, maker.DIGEST = (os.path.join(LocalPage.folder(), name) for name in ('made.html', 'made.sha256'))
+    maker.page = functools.lru_cache(maker.page)
+    text = maker.read(FILE)
+    block = re.search(r'zlib;base64" id="[^"]*">(.*?)</script>', text)[1]
+    cases = (
+        ('packed otherwise', repacked(text), 0), ('another byte', repacked(text, lambda data: data[:-1] + bytes([data[-1] ^ 1])), 1),
+        ('more behind the end', repacked(text, more=b'x'), 1), ('cut off', text.replace(block, block[:-8]), 1),
+        ('damaged', text.replace(block, block[:500] + 'AAAA' + block[504:]), 1), ('no base 64', text.replace(block, block + '-'), 1),
+    )
+    for what, other, wrong in cases:
+        check(f'{what}: the page is another one', other != text)
+        for file, data in ((maker.MADE, other), (maker.DIGEST, f'{hashlib.sha256(other.encode()).hexdigest()}  ../agc.html\n')):
+            with open(file, 'w', encoding='utf-8', newline='') as written:
+                written.write(data)
+        with contextlib.redirect_stdout(io.StringIO()), contextlib.redirect_stderr(io.StringIO()):
+            judge(f'{what}: --check', wrong, maker.main(['--check']))
+            maker.main([])
+        judge(f'{what}: it is made again if it is wrong', bool(wrong), maker.read(maker.MADE) != other)
 
 
 def try_session():
@@ -122,7 +166,7 @@ def try_firefox():
 
 
 TRIES = (
-    try_made, try_session, try_example, web.try_changes, web.try_stop, web.try_sizes, try_words, try_fallbacks, *flights.TRIES, *twins.TRIES, *randoms.TRIES,
+    try_made, try_packed, try_session, try_example, web.try_changes, web.try_stop, web.try_sizes, try_words, try_fallbacks, *flights.TRIES, *twins.TRIES, *randoms.TRIES,
     *opening.TRIES, *source.TRIES, *exercises.TRIES, *plotted.TRIES, *(listing.TRIES if source.HAS_ASSEMBLER else ()),
 )
 

@@ -15,14 +15,14 @@ function weaveText(text) {
   return assembling.last;
 }
 
-function startAssembler() {
+async function startAssembler() {
   const worker = new Worker(URL.createObjectURL(new Blob([dataOf('assembler-worker')], { type: 'text/javascript' })));
-  worker.postMessage({ code: bytesOf(dataOf('assembler')) });
+  worker.postMessage({ code: await unpacked('assembler') });
   return worker;
 }
 
-function weaveNow(text) {
-  assembling.worker ??= startAssembler();
+async function weaveNow(text) {
+  assembling.worker ??= await startAssembler();
   const { worker } = assembling;
   return new Promise((done) => {
     const end = (answer) => {

@@ -10,7 +10,10 @@ const SUSPENDS = Boolean(WebAssembly.Suspending)
 const bytesOf = (base64) => Uint8Array.from(atob(base64), (sign) => sign.charCodeAt(0));
 const dataOf = (id) => document.getElementById(id).textContent;
 
-const moduleNow = () => ({ code: bytesOf(dataOf(SUSPENDS ? 'console' : 'console-stopping')), stops: !SUSPENDS });
+// Returns the bytes of a block that launch/page has packed.
+const unpacked = (id) => through(new DecompressionStream('deflate'), bytesOf(dataOf(id)), Infinity);
+
+const moduleNow = async () => ({ code: await unpacked(SUSPENDS ? 'console' : 'console-stopping'), stops: !SUSPENDS });
 
 // A worker with one machine, whose news wait until somebody listens.
 class Engine {
@@ -102,7 +105,7 @@ const session = {
   // Opens a rope, with what was kept of a session of it. Returns why that is refused, or nothing: then its session is the page's.
   async open(files, kept = null) {
     const opened = new Engine(() => page.reached(false));
-    const answer = await opened.call('open', { ...files, names: files.names ?? namesIn(files.listing), listing: hasListing(files), module: moduleNow(), kept });
+    const answer = await opened.call('open', { ...files, names: files.names ?? namesIn(files.listing), listing: hasListing(files), module: await moduleNow(), kept });
     if (answer.status !== 200) {
       opened.close();
       return answer.error;
@@ -128,7 +131,7 @@ const session = {
     const { script, limit } = await callEngine('script');
     const { views } = await callEngine('views');
     const maker = new Engine(() => {});
-    const answer = await maker.call('film', { ...session.files, module: moduleNow(), script, limit });
+    const answer = await maker.call('film', { ...session.files, module: await moduleNow(), script, limit });
     maker.close();
     if (answer.status !== 200) throw new Error(answer.error);
     const [head, tail, viewer] = JSON.parse(dataOf('film-page'));
