@@ -102,7 +102,7 @@ class LocalPage(web.Page):  # type: ignore[name-defined]
         self.look()
 
     def notice(self):
-        return self.value("document.getElementById('notice-text').textContent")
+        return self.value("document.getElementById('notice-text')?.textContent")
 
 
 def text_of(path):

@@ -126,19 +126,30 @@ def try_words():
     page.close()
 
 
-def try_fallbacks():
-    """A browser that cannot suspend a module, or has no memory with 64-bit addresses, runs the module that stops by itself."""
+class OldPage(LocalPage):
+    """The page in a browser that lacks something."""
+
+    def load(self, url=None):
+        self.window.ask('Page.addScriptToEvaluateOnNewDocument', source=self.before)
+        self.window.load(f'file://{FILE}')
+
+
+def try_old():
+    """A browser that cannot suspend a module runs the machine too; one that cannot unpack it, or has no WebAssembly, says so."""
     lit = web.film.segments_of(web.film.panel(PROG='88', VERB='88', NOUN='88', R1='+88888', R2='+88888', R3='+88888'))
-    for what, before in (('suspension', 'delete WebAssembly.Suspending;'), ('wide memories', 'WebAssembly.validate = () => false;')):
-        LocalPage.before = before
-        page = LocalPage(LocalSite(example('verbs', 'rope')))
-        LocalPage.before = ''
-        judge(f'without {what} the other module runs', False, page.value('SUSPENDS'))
-        page.type('Space', 'v', '3', '5', 'Enter')
-        judge(f'without {what} all is lit', lit, page.see("Look.places('left')", lit))
-        page.pause()
-        web.compare_with_agc(f'without {what}', page, example('verbs', 'rope'))
+    LocalPage.before = 'delete WebAssembly.Suspending; delete WebAssembly.promising;'
+    page = LocalPage(LocalSite(example('verbs', 'rope')))
+    page.type('Space', 'v', '3', '5', 'Enter')
+    judge('without suspension all is lit', lit, page.see("Look.places('left')", lit))
+    page.pause()
+    web.compare_with_agc('without suspension', page, example('verbs', 'rope'))
+    page.close()
+    for name in ('DecompressionStream', 'WebAssembly'):
+        LocalPage.before = f'delete window.{name};'
+        page = OldPage(LocalSite(example('verbs', 'rope')))
+        judge(f'without {name}', True, wait(lambda: (page.notice() or '').startswith('This browser cannot run the machine'), 60))
         page.close()
+    LocalPage.before = ''
 
 
 def try_firefox():
@@ -149,7 +160,6 @@ def try_firefox():
     state = lambda: page.value("document.getElementById('state').textContent")
     page.load(f'file://{FILE}')
     judge('Firefox: it begins paused', True, wait(lambda: state() == 'paused', 300))
-    judge('Firefox suspends the module', True, page.value('SUSPENDS'))
     page.type('Space', 'v', '3', '5', 'Enter')
     judge('Firefox: all is lit', True, wait(lambda: page.value('shown.panel.R3') == '+88888', 300))
     page.type('Space')
@@ -166,7 +176,7 @@ def try_firefox():
 
 
 TRIES = (
-    try_made, try_packed, try_session, try_example, web.try_changes, web.try_stop, web.try_sizes, try_words, try_fallbacks, *flights.TRIES, *twins.TRIES, *randoms.TRIES,
+    try_made, try_packed, try_session, try_example, web.try_changes, web.try_stop, web.try_sizes, try_words, try_old, *flights.TRIES, *twins.TRIES, *randoms.TRIES,
     *opening.TRIES, *source.TRIES, *exercises.TRIES, *plotted.TRIES, *(listing.TRIES if source.HAS_ASSEMBLER else ()),
 )
 

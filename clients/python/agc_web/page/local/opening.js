@@ -40,6 +40,10 @@ async function openExample(name) {
 async function openFirst() {
   buildOpening();
   buildSource();
+  if (IS_OLD) {
+    say(TOO_OLD);
+    return;
+  }
   const isOpen = (location.hash.startsWith(MARK) && await openLink()) || await openKept();
   if (!isOpen) await openExample(FIRST);
   openLinkedSource();

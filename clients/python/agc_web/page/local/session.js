@@ -2,18 +2,14 @@
 // The session behind the page of agc.html: a machine in a worker of this page. It takes the place of web/session.js, and has the
 // same calls; `weave`, `open`, `files` and `kept` are for the other files of this folder.
 
-// Whether this browser has what the smaller of the two modules of agc-console needs: it suspends a module that waits, and has
-// memories with 64-bit addresses. Eight bytes and such a memory are a whole module.
-const SUSPENDS = Boolean(WebAssembly.Suspending)
-  && WebAssembly.validate(new Uint8Array([0, 97, 115, 109, 1, 0, 0, 0, 5, 3, 1, 4, 0]));
+const IS_OLD = !('WebAssembly' in window && 'DecompressionStream' in window); // what this browser has
+const TOO_OLD = 'This browser cannot run the machine: it has no WebAssembly or no DecompressionStream. Chromium 103, Firefox 113 and Safari 16.4 have both.';
 
 const bytesOf = (base64) => Uint8Array.from(atob(base64), (sign) => sign.charCodeAt(0));
 const dataOf = (id) => document.getElementById(id).textContent;
 
 // Returns the bytes of a block that launch/page has packed.
 const unpacked = (id) => through(new DecompressionStream('deflate'), bytesOf(dataOf(id)), Infinity);
-
-const moduleNow = async () => ({ code: await unpacked(SUSPENDS ? 'console' : 'console-stopping'), stops: !SUSPENDS });
 
 // A worker with one machine, whose news wait until somebody listens.
 class Engine {
@@ -105,7 +101,7 @@ const session = {
   // Opens a rope, with what was kept of a session of it. Returns why that is refused, or nothing: then its session is the page's.
   async open(files, kept = null) {
     const opened = new Engine(() => page.reached(false));
-    const answer = await opened.call('open', { ...files, names: files.names ?? namesIn(files.listing), listing: hasListing(files), module: await moduleNow(), kept });
+    const answer = await opened.call('open', { ...files, names: files.names ?? namesIn(files.listing), listing: hasListing(files), module: await unpacked('console'), kept });
     if (answer.status !== 200) {
       opened.close();
       return answer.error;
@@ -131,7 +127,7 @@ const session = {
     const { script, limit } = await callEngine('script');
     const { views } = await callEngine('views');
     const maker = new Engine(() => {});
-    const answer = await maker.call('film', { ...session.files, module: await moduleNow(), script, limit });
+    const answer = await maker.call('film', { ...session.files, module: await unpacked('console'), script, limit });
     maker.close();
     if (answer.status !== 200) throw new Error(answer.error);
     const [head, tail, viewer] = JSON.parse(dataOf('film-page'));

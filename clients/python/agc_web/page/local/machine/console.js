@@ -20,7 +20,7 @@ export class Console {
   #ended = null;
 
   // Starts a console with the bytes of a rope, and the texts of a script and of names; all but these two may be missing. `module`
-  // is {code, stops}. Throws `Ended` if a file is refused.
+  // are the bytes of a module that stops by itself while it waits. Throws `Ended` if a file is refused.
   static async start(module, { rope, script, names, form, limit }) {
     const console = new Console();
     const bytes = (text) => new TextEncoder().encode(text);
@@ -34,7 +34,7 @@ export class Console {
     }
     args.push('--', FILES.rope, FILES.script);
     const given = { args, files, write: (file, part) => console.#write(file, part) };
-    runProgram(module.code, given, console.#input, module.stops)
+    runProgram(module, given, console.#input, true)
       .then((status) => console.#end(console.#errors.trim() || `agc-console has ended with status ${status}`))
       .catch((error) => console.#end(`agc-console has failed: ${error.message}`));
     await console.say('quiet');
