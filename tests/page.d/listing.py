@@ -17,14 +17,14 @@ OWN = "[...document.querySelectorAll('#source-own .here')].map((mark) => Number(
 STOPS = "[...document.querySelectorAll('#source-own .stops')].map((mark) => Number(mark.dataset.line))"
 
 
-def woven(text):
-    """Returns a folder with the rope of a text, and its listing beside it."""
+def woven(text, name):
+    """Returns a folder with the rope of a text in a file of this name, and its listing beside it."""
     folder = os.path.join(LocalPage.folder(), f'woven{len(os.listdir(LocalPage.folder()))}')
     os.mkdir(folder)
-    with open(os.path.join(folder, 'source'), 'w', encoding='utf-8') as file:
+    with open(os.path.join(folder, name), 'w', encoding='utf-8') as file:
         file.write(text)
     with open(os.path.join(folder, 'rope'), 'wb') as rope:
-        subprocess.run([STUDY, 'weave', 'source', '--write-listing', 'listing'], stdout=rope, cwd=folder, check=True)
+        subprocess.run([STUDY, 'weave', name, '--write-listing', 'listing'], stdout=rope, cwd=folder, check=True)
     return folder
 
 
@@ -48,7 +48,7 @@ def step(page, count, lit):
 def try_example_lines():
     """An example whose source is in the page is followed line by line, and can be changed."""
     page = WritingPage(LocalSite(example('verbs', 'rope')))
-    folder = woven(text_of(example('verbs', 'words')))
+    folder = woven(text_of(example('verbs', 'words')), 'Verbs-and-nouns.agc')
     page.value("showTab('source')")
     judge('its lines are there', True, wait(lambda: page.value(listed.ROWS) > 0))
     page.value("ask('key', { name: 'VERB' }).then(() => 0)")
@@ -72,7 +72,7 @@ def try_example_lines():
 def try_own_lines():
     """A program that is written in the page is followed in the editor; a click at a number is a breakpoint; a change ends that."""
     page = WritingPage(LocalSite(example('verbs', 'rope')))
-    folder = woven(BLINK)
+    folder = woven(BLINK, 'First-program.agc')
     lines = listed.read(folder)[0]
     page.click('#write-button')
     page.see("find('rope').textContent", 'First program')
@@ -100,6 +100,42 @@ def try_own_lines():
     page.close()
 
 
+def try_woven_again():
+    """A text that is woven again keeps the breakpoints whose lines or names it still has, and the page says which have gone."""
+    page = WritingPage(LocalSite(example('verbs', 'rope')))
+    page.click('#write-button')
+    page.see("find('rope').textContent", 'First program')
+    write(page, BLINK)
+    page.click('#weave')
+    page.state('running')
+    page.pause()
+    lines, places = listed.read(woven(BLINK, 'First-program.agc'))
+    calls = [i for i, (_, _, text) in enumerate(lines) if text.split() == ['TC', 'PAUSE']]
+    given = [next(place for place, line in places.items() if line == index) for index in (calls[1], index_of(lines, 'CA      OFF'), index_of(lines, 'PAUSE'))]
+    texts = [*given, 'ROUND if COUNT < 3', 'cell COUNT', 'write 11', 'LONG']
+    judge('they are set', [200] * 7, [page.site.do('break', place=text) for text in texts])
+    changed = BLINK.replace('        CA      OFF\n', '        CA      ZERO\n').replace('OFF     OCT', 'ZERO    OCT').replace('LONG', 'TIMES').replace('BEGIN   CA', '        NOOP\nBEGIN   CA')
+    changed = changed.replace('PAUSE   CA      TIMES', 'PAUSE   CA      TIMES   # a pause')
+    write(page, changed)
+    page.click('#weave')
+    said = f'Breakpoints that are removed, because their lines or names are gone: order at {given[1]} (CA OFF); order at LONG.'
+    judge('the page says which have gone', said, page.see("find('notice-text').textContent", said))
+    page.site.do('pause')
+    lines, places = listed.read(woven(changed, 'First-program.agc'))
+    calls = [i for i, (_, _, text) in enumerate(lines) if text.split() == ['TC', 'PAUSE']]
+    wanted = [next(place for place, line in places.items() if line == index) for index in (calls[1], index_of(lines, 'PAUSE'))]
+    judge('a line is one word further on', [int(place[3:], 8) + 1 for place in (given[0], given[2])], [int(place[3:], 8) for place in wanted])
+    judge('the others stay with their lines', [*wanted, *texts[3:6]], page.site.state()['breakpoints'])
+    page.value("openSourceExample('stopwatch').then(() => 0)")
+    judge('another example has none', [], page.site.state()['breakpoints'])
+    page.close()
+
+
+def index_of(lines, code):
+    """Returns the number of the line that begins with this code."""
+    return next(i for i, (_, _, text) in enumerate(lines) if text.strip().startswith(code))
+
+
 def height_of(page, line):
     """Scrolls the editor so that a line is seen, and returns how far down in the window it is."""
     page.value(f"find('source').scrollTop = {18 * max(0, line - 3)}; undefined")
@@ -124,7 +160,7 @@ def dropped(page, name, text):
 
 def try_dropped():
     """A listing that is opened beside a rope is compared with it; its names are known; one that is wrong or no listing is refused."""
-    folder = woven(text_of(example('keys', 'words')))
+    folder = woven(text_of(example('keys', 'words')), 'keys.agc')
     page = LocalPage(LocalSite(os.path.join(folder, 'rope')))
     listing = text_of(os.path.join(folder, 'listing'))
     dropped(page, 'keys.listing', listing)
@@ -150,4 +186,4 @@ def try_dropped():
     page.close()
 
 
-TRIES = (try_example_lines, try_own_lines, try_dropped)
+TRIES = (try_example_lines, try_own_lines, try_woven_again, try_dropped)

@@ -291,6 +291,7 @@ def try_film():
     page.click('#script-tab')
     page.click('#download')
     judge('the download', page.site.script(), page.see('blobs.length ? blobs[0].text() : null', page.site.script()))
+    judge('the page says so', 'The script is saved as session.script, among the downloads of this browser.', page.notice())
     page.click('#film')
     judge('the film has a tab', True, wait(lambda: film_tab(page) is not None, 120))
     page.close()

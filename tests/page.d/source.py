@@ -117,6 +117,7 @@ def try_written():
     page.value("HTMLAnchorElement.prototype.click = function () { window.saved = this.download; }; undefined")
     page.click('#source-save')
     judge('it is saved', (first, 'First-program.agc'), (page.see('blobs.length ? blobs[0].text() : null', first), page.value('window.saved')))
+    judge('the page says so', 'The source is saved as First-program.agc, among the downloads of this browser.', page.notice())
     requests = [event['params']['request']['url'] for event in page.window.events if event['method'] == 'Network.requestWillBeSent']
     judge('nothing is requested elsewhere', [], [url for url in requests if not url.startswith(('file://', 'blob:null/', 'data:'))])
     page.close()
@@ -285,6 +286,9 @@ def try_source_files():
     choose(page, file_of('blink.agc', BLINK.replace('\n', '\r\n').encode()))
     judge('a file', (BLINK, 'blink', 'source'), (page.see("find('source').value", BLINK), page.value("find('source-name').value"), page.value('inspector.tab')))
     judge('nothing runs', ('Verbs and nouns', 'paused'), (page.text('rope'), page.text('state')))
+    page.value('openWoven(false).then(() => 0)')
+    judge('it is woven by its name', True, page.see("find('listing-where').textContent.split(',')[0]", 'blink.agc 5') == 'blink.agc 5')
+    page.site.open('verbs')
     for what, data, why in (('odd.agc', b'\xff\xfe\x00', 'odd.agc is no source: it is not text.'),
                             ('long.agc', bytes(1_000_001), 'long.agc is too long for a source: 1,000,001 bytes, at most 1,000,000.')):
         choose(page, file_of(what, data))
@@ -308,8 +312,8 @@ def try_source_files():
 def try_stuck(page):
     """An assembler that does not answer is ended, and another one weaves the next text."""
     page.value("Object.assign(assembling, { longest: 200, worker: new Worker(URL.createObjectURL(new Blob(['']))) }); undefined")
-    judge('it is ended', 'The assembler took too long, and was ended.', page.value(f'weaveText({json.dumps(BLINK)}).then((woven) => woven.error)'))
-    judge('the next one weaves', list(woven(BLINK)[0]), page.value(f'assembling.longest = 60000, weaveText({json.dumps(BLINK)}).then((woven) => [...woven.rope])'))
+    judge('it is ended', 'The assembler took too long, and was ended.', page.value(f'weaveText({json.dumps(BLINK)}, "blink.agc").then((woven) => woven.error)'))
+    judge('the next one weaves', list(woven(BLINK)[0]), page.value(f'assembling.longest = 60000, weaveText({json.dumps(BLINK)}, "blink.agc").then((woven) => [...woven.rope])'))
 
 
 def try_source_link():

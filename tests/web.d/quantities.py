@@ -295,6 +295,7 @@ def try_csv(window):
     cycle = window.value('plot.samples[1].cycle')
     lines = text.split('\n')
     judge('its name, header and end', ('quantities.csv', 'cycle,seconds,count,other1,other2,other3,other4,other5', ''), (window.value('window.saved'), lines[0], lines[-1]))
+    judge('the page says so', f'Saved as quantities.csv: {len(lines) - 2:,} samples.', window.value("document.getElementById('plot-said').textContent"))
     row = lines[2].split(',')
     judge('a row', [str(cycle), str(count_at(cycle)), 8], [row[0], row[2], len(row)])
     judge('its seconds', True, abs(float(row[1]) - cycle * 3 / 256000) < 3 / 512000)

@@ -220,12 +220,16 @@ def explain(site, window):
     site.do('pause')
     script = site.script()
     judge('the page offers the reason', True, see(window, "document.getElementById('alarm').hidden", False) is False)
+    window.resize(390, 844)
     click(window, 'Why?', '#alarm button')
     text = "document.getElementById('why-text').textContent"
     wait(lambda: 'called' in window.value(text), 300)
     says = r'Alarm 1201: no VAC area was free\. READACCS \+\d+ called FINDVAC, for it wants a core set and a VAC area for one more job, at [67]\.\d+ s, cycle ([\d,]+)\.'
     found = re.fullmatch(says, window.value(text))
     stands = "document.getElementById('why-stands').textContent"
+    inside = "(({ top, bottom }) => top >= 0 && bottom <= innerHeight)(document.getElementById('why-says').getBoundingClientRect())"
+    judge('on a phone the answer is scrolled to', True, see(window, inside, True))
+    window.resize(1000, 700)
     judge('time stands there, it says', ' Time stands before this order.', see(window, stands, ' Time stands before this order.'))
     judge('the cause', True, found is not None)
     cycle = int(found.group(1).replace(',', '')) if found else 0

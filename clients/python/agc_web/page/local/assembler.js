@@ -6,12 +6,12 @@ const LARGEST_SOURCE = 1e6; // characters
 // The worker, from the first text on; the weaving that was asked for last; and how many milliseconds one may take.
 const assembling = { worker: null, last: Promise.resolve(), longest: 60000 };
 
-// Weaves a text. Returns {status, said, explained, rope, names, listing, lines} as the worker has them, or {error}.
-function weaveText(text) {
+// Weaves a text, as a file of this name. Returns {status, said, explained, rope, names, listing, lines} as the worker has them, or {error}.
+function weaveText(text, file) {
   if (text.length > LARGEST_SOURCE) {
     return { error: `The text is too long: ${grouped(text.length)} characters, at most ${grouped(LARGEST_SOURCE)}.` };
   }
-  assembling.last = assembling.last.then(() => weaveNow(text));
+  assembling.last = assembling.last.then(() => weaveNow(text, file));
   return assembling.last;
 }
 
@@ -21,7 +21,7 @@ async function startAssembler() {
   return worker;
 }
 
-async function weaveNow(text) {
+async function weaveNow(text, file) {
   assembling.worker ??= await startAssembler();
   const { worker } = assembling;
   return new Promise((done) => {
@@ -37,6 +37,6 @@ async function weaveNow(text) {
     const timer = setTimeout(() => fail('The assembler took too long, and was ended.'), assembling.longest);
     worker.onmessage = ({ data }) => end(data);
     worker.onerror = () => fail('The assembler has failed.');
-    worker.postMessage({ text });
+    worker.postMessage({ text, file });
   });
 }

@@ -153,6 +153,7 @@ function buildOpening() {
   find('download').addEventListener('click', (event) => {
     event.preventDefault();
     download('session.script', session.script());
+    say('The script is saved as session.script, among the downloads of this browser.');
   });
   find('film').addEventListener('click', (event) => {
     event.preventDefault();

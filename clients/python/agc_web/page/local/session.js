@@ -93,7 +93,7 @@ const session = {
   look: (wanted) => callEngine('look', wanted),
   find: (wanted) => callEngine('find', wanted),
   script: async () => (await callEngine('script')).script,
-  weave: (text) => weaveText(text),
+  weave: (text, file) => weaveText(text, file),
   source: async () => ({ listing: await listingOf(session.files), rope: session.files.rope, form: session.files.form }),
   scriptAddress: '#script',
   filmAddress: '#film',

@@ -20,7 +20,7 @@ function hasListing({ listing: text, example, rope }) {
 
 async function listingOf({ listing: text, example }) {
   if (text) return text;
-  const woven = await session.weave(sourceOfExample(example));
+  const woven = await session.weave(sourceOfExample(example), fileNamed(EXAMPLES[example].title));
   if (!woven.lines) throw new Error(woven.error ?? 'its source has a fault');
   return woven.lines;
 }
@@ -57,10 +57,10 @@ function followInEditor() {
   showMarks();
 }
 
-const isTextRunning = () => Boolean(listing.read && writing.woven?.lines) && writing.woven.lines === listing.text && writing.woven.text === sourceText();
+const isTextRunning = () => listing.read !== null && sourceText().replace(/\n$/, '') === listing.code;
 
 // Whether what runs was woven from the editor's text, or from an earlier one.
-const isWovenHere = () => sourceText() !== '' && session.files?.listing?.split(LINE, 1)[0].match(LISTED)?.[3] === 'source';
+const isWovenHere = () => sourceText() !== '' && session.files?.listing?.split(LINE, 1)[0].match(LISTED)?.[3] === fileNamed(written().name);
 
 // Called with each session: it is shown by its lines if it has a listing, or in the editor if it comes from there.
 function followSession() {
@@ -75,6 +75,43 @@ function changeExample() {
   showSource({ name: title.slice(0, 60), text: sourceOfExample(example), example: name });
   keepSource();
   checkSoon();
+}
+
+// breakpoints of a text that is woven again
+
+// The words of a line, without its comment: the same in two lines that differ in spaces alone.
+const codeOfLine = ({ text }) => text.split('#')[0].trim().split(/\s+/).join(' ');
+const nameOfLine = ({ text }) => text.match(/^[^\s#]+/)?.[0];
+
+// Returns the breakpoints: their texts and, of one that is given by its place, its line and how many of the same are above it.
+async function breaksWithLines() {
+  if (!shown.breakpoints?.length) return [];
+  await loadListing();
+  const { lines = [], at } = listing.read ?? {};
+  return shown.breakpoints.map((text) => {
+    const index = at?.get(keyOf(text.split(' ')[0]));
+    const line = lines[index];
+    return { text, line, above: line && lines.slice(0, index).filter((each) => codeOfLine(each) === codeOfLine(line)).length };
+  });
+}
+
+// Returns where the line of a breakpoint is now: the line with the same words, or else the one with its name. Undefined if it has gone.
+function placeOfLine({ line, above }, lines) {
+  const same = lines.filter((each) => each.words.length && codeOfLine(each) === codeOfLine(line));
+  const named = lines.find((each) => each.words.length && nameOfLine(each) !== undefined && nameOfLine(each) === nameOfLine(line));
+  return (same[above] ?? same.at(-1) ?? named)?.words[0].place;
+}
+
+// Sets the breakpoints of the session before, as far as their lines and names are in the new one, and says which have gone.
+async function setBreaks(breaks, lines) {
+  const gone = [];
+  for (const each of breaks) {
+    const [place, ...condition] = each.text.split(' ');
+    const there = each.line ? placeOfLine(each, lines) : place;
+    const isSet = there !== undefined && (await session.do('break', { place: [there, ...condition].join(' ') })).status === 200;
+    if (!isSet) gone.push(breakText(each.text) + (each.line ? ` (${codeOfLine(each.line)})` : ''));
+  }
+  if (gone.length) say(`Breakpoints that are removed, because their lines or names are gone: ${gone.join('; ')}.`);
 }
 
 // the editor's lines

@@ -7,7 +7,7 @@ const SOURCES = Object.fromEntries((HAS_ASSEMBLER ? JSON.parse(dataOf('sources')
 const SOURCE_STORE = 'agc.source';
 const CHECK_AFTER = 400; // milliseconds after the last change
 const COLUMNS = 8; // between two stops of the tab key
-const FAULT = /^agc-study: (?:text|source) line (\d+)(?:, column \d+)?: (.*)$/;
+const FAULT = /^agc-study: \S+ line (\d+)(?:, column \d+)?: (.*)$/;
 const UNKNOWN_ORDER = /^unknown order or directive `[^`]*[a-z][^`]*`/; // with a lower-case letter
 const NOTHING_WRITTEN = { name: '', text: '', example: null };
 
@@ -53,9 +53,9 @@ function withReason(text, reason) {
 async function weaveSource() {
   clearTimeout(writing.timer);
   const text = sourceText();
-  const woven = await session.weave(text);
+  const woven = await session.weave(text, fileNamed(written().name));
   if (text !== sourceText()) return null;
-  writing.woven = { ...woven, text };
+  writing.woven = woven;
   writing.faults = woven.error ? [{ line: 0, text: woven.error }] : faultsIn(woven);
   showFaults();
   setText(find('source-said'), text.trim() ? summaryOf(woven) : '');
@@ -99,8 +99,9 @@ function filesOfSource({ name, example }, { rope, names, lines }) {
   return { ...from, title: name, rope, names, listing: lines, form: null, guide: guide ?? from.guide };
 }
 
-// Opens a session of the text, if it has no fault. Returns whether it did. The guided steps go on where they were.
-async function openWoven() {
+// Opens a session of the text, if it has no fault. Returns whether it did. The guided steps go on where they were, and
+// breakpoints stay if `keepsBreaks`.
+async function openWoven(keepsBreaks) {
   const woven = await weaveSource();
   if (!woven?.rope) {
     if (writing.faults.length) goToLine(writing.faults[0].line);
@@ -109,7 +110,9 @@ async function openWoven() {
   const { guide, at, since } = guiding;
   const done = written();
   const files = filesOfSource(done, woven);
+  const breaks = keepsBreaks ? await breaksWithLines() : [];
   if (!await openAndSay(files, null, '')) return false;
+  await setBreaks(breaks, readListing(woven.lines).lines);
   beginToKeep();
   writing.files = files;
   const again = guiding.guides.find(({ title }) => title === guide?.title);
@@ -123,7 +126,7 @@ async function openWoven() {
 
 // Runs the text at once. From then on the keys are the DSKY's, but if the keyboard asked for it.
 async function runSource(staysThere = false) {
-  const isRun = await openWoven();
+  const isRun = await openWoven(true);
   if (isRun && !staysThere) find('source').blur();
   if (isRun) await ask('play');
   followGuide();
@@ -201,7 +204,7 @@ async function openSourceExample(name) {
   const { title, text } = SOURCES[name];
   showSource({ name: title, text, example: name });
   keepSource();
-  await openWoven();
+  await openWoven(false);
 }
 
 function showSourceTab() {
@@ -238,9 +241,16 @@ function openKeptSource() {
   if (!location.hash.startsWith(SOURCE_MARK)) checkSoon();
 }
 
+// Returns the name of a source's file: it is woven and saved by this name.
+function fileNamed(name) {
+  const plain = name.replace(/[^\w.-]+/g, '-');
+  return isSourceName(plain) ? plain : `${plain}.agc`;
+}
+
 function saveSource() {
   const { name, text } = written();
-  download(`${name.replace(/\.agc$/, '').replace(/[^\w.-]+/g, '-')}.agc`, text);
+  download(fileNamed(name), text);
+  say(`The source is saved as ${fileNamed(name)}, among the downloads of this browser.`);
 }
 
 // Opens a file of a source. Returns whether it is one, or was meant to be one.

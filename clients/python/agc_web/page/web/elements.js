@@ -14,6 +14,12 @@ function setText(element, text) {
   if (element.textContent !== text) element.textContent = text;
 }
 
+// Scrolls to an element that is not seen: at the width of a phone it may stand far below.
+function bringIntoView(element) {
+  const { top, bottom } = element.getBoundingClientRect();
+  if (top < 0 || bottom > innerHeight) element.scrollIntoView({ block: 'center' });
+}
+
 const SVG = 'http://www.w3.org/2000/svg';
 
 function drawn(name, attributes, ...inside) {

@@ -8,7 +8,7 @@ const SPARE = 20; // lines that are made beyond those that are seen
 const LONGEST_SHOWN = 400; // characters of a line
 const NAMED = /^(.+?)([+-]\d+)?$/;
 
-const EMPTY_LISTING = { offered: false, loading: null, read: null, text: '', places: new Map(), here: null, breaks: new Map(), breaksText: '', pointed: null, valuesAt: '', scrolledAt: -1 };
+const EMPTY_LISTING = { offered: false, loading: null, read: null, code: '', places: new Map(), here: null, breaks: new Map(), breaksText: '', pointed: null, valuesAt: '', scrolledAt: -1 };
 
 // `here` is the line of the order that comes next; `breaks` has the breakpoints of lines as they were given. `also` is called after
 // each change, `begins` with each session.
@@ -38,11 +38,10 @@ function loadListing() {
 async function readAndCompare() {
   const { places } = listing;
   setText(find('listing-fault'), 'Reading the source …');
-  let [read, text] = [null, ''];
+  let read = null;
   let refused = '';
   try {
-    const { listing: found, rope, form } = await session.source();
-    text = found;
+    const { listing: text, rope, form } = await session.source();
     read = readListing(text);
     compareWords(read, rope, form);
   } catch (error) {
@@ -51,7 +50,7 @@ async function readAndCompare() {
   if (places !== listing.places) return false; // of another session
   setText(find('listing-fault'), refused);
   if (refused) return false;
-  Object.assign(listing, { read, text });
+  Object.assign(listing, { read, code: read.lines.map((line) => line.text).join(LINE) });
   listing.places = new Map([...read.names, ...places]);
   const files = new Set(read.lines.map(({ file }) => file));
   listing.label = files.size > 1 ? ({ file, number }) => `${file} ${number}` : ({ number }) => number;
@@ -254,6 +253,7 @@ async function showAlarmLine() {
   find('listing-cause').replaceChildren(`${code === null ? 'An alarm' : `Alarm ${octal(code, 4)}`}${reason}. `, again);
   find('listing-cause').hidden = false;
   showTab('source');
+  bringIntoView(find('listing-cause'));
 }
 
 // Goes back to a cycle. A session with instruments may first go back to their tick before it.

@@ -401,12 +401,17 @@ function plotAsCsv() {
   return [head, ...rows].map((fields) => `${fields.join(',')}${LINE}`).join('');
 }
 
+function savePlot() {
+  download('quantities.csv', plotAsCsv());
+  setText(find('plot-said'), `Saved as quantities.csv: ${grouped(plot.samples.length)} samples.`);
+}
+
 function buildPlot() {
   const area = find('plot-area');
   for (const kind of ['pointerdown', 'pointermove']) area.addEventListener(kind, dragPlot);
   for (const kind of ['pointerup', 'pointercancel', 'lostpointercapture']) area.addEventListener(kind, dropPlot);
   area.addEventListener('keydown', moveByKey);
-  find('plot-save').addEventListener('click', () => download('quantities.csv', plotAsCsv()));
+  find('plot-save').addEventListener('click', savePlot);
   find('plot-span').addEventListener('change', drawSoon);
   new ResizeObserver(drawSoon).observe(area);
 }

@@ -121,6 +121,7 @@ function followWhy() {
   showCause(code, cycle);
   showSets((shown.tables || []).filter((line) => line.startsWith('SET ')));
   showStolen(cycle);
+  bringIntoView(find('why-says'));
   followGuide(); // nothing else comes that would move it on: time stands
 }
 
