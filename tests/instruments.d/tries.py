@@ -232,7 +232,7 @@ def packets_of(pieces):
     for piece in pieces:
         try:
             found += [packet[:2] for packet in reader.feed(piece)]
-        except protocol.OutOfStep:
+        except protocol.Fault:
             return [*found, None]
     return found
 
@@ -380,7 +380,7 @@ def try_addresses():
         "127.0.0.1": False, "127.9.9.9": False, "::1": False, "localhost": False, "0.0.0.0": True, "192.168.1.5": True,
         "::": True, "somewhere.example": True,
     }
-    judge("addresses that are reached", wanted, {each: instruments._is_reachable(each) for each in wanted})
+    judge("addresses that are reached", wanted, {each: instruments.is_reachable(each) for each in wanted})
 
 
 # sessions
@@ -764,9 +764,9 @@ def try_gaps():
         judge("keys of who sent rubbish are dropped, of who has gone are pressed", ["25599 key 8"], keys[2:])
         dsky.keys(*["1"] * 70)
         end = time.monotonic() + LONGEST
-        while beside.served.refused < 6 and time.monotonic() < end:
+        while beside.served.desk.refused < 6 and time.monotonic() < end:
             time.sleep(0.02)
-        judge("64 keys wait, and those after them are refused", 6, beside.served.refused)
+        judge("64 keys wait, and those after them are refused", 6, beside.served.desk.refused)
         judge("no key is given before its time", 8, len(beside.script(8)))
         refused = f"instruments: port {beside.port}: input refused: 64 keys wait already"
         judge("each is told", 6, beside.said.getvalue().splitlines().count(refused))
@@ -960,7 +960,7 @@ def try_going_back():
         judge("undone: NOUN 71", True, dsky.until(lambda each: each.shown()[2] == "NOUN 71"))
         session.go_there(0, sure=True)
         judge("back to the start", True, dsky.until(lambda each: each.shown()[2] == "NOUN __"))
-        judge("nothing was refused", 0, beside.served.refused)
+        judge("nothing was refused", 0, beside.served.desk.refused)
     judge("the client sees the end", False, dsky.lasts())
     told = beside.said.getvalue().splitlines()
     judge("what is said", f"instruments: ports {beside.port} to {beside.port + 9} of 127.0.0.1", told[0])

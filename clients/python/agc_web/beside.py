@@ -53,12 +53,11 @@ def opened(start: Start, named: Beside, rope: agc.Path, note: Note) -> Tuple[agc
 def texts_of(named: Mapping[str, Optional[str]], rope: agc.Path, note: Note) -> Dict[str, Optional[str]]:
     """Returns the texts for the page by their kinds: of the files that were named, else of those beside the rope; None if there is
     none. If a file beside the rope cannot be read, `note` says why. Raises `OSError` for one that was named."""
-    return {kind: text_of(kind, named.get(kind), rope, note) for kind in LONGEST}
+    return {kind: _text_of(kind, named.get(kind), os.fspath(rope), note) for kind in LONGEST}
 
 
-def text_of(kind: str, named: Optional[str], rope: agc.Path, note: Note) -> Optional[str]:
-    """Returns the text of one kind."""
-    path = named if named is not None else _file_beside(os.fspath(rope), kind)
+def _text_of(kind: str, named: Optional[str], rope: str, note: Note) -> Optional[str]:
+    path = named if named is not None else _file_beside(rope, kind)
     if path is None:
         return None
     try:
@@ -66,12 +65,12 @@ def text_of(kind: str, named: Optional[str], rope: agc.Path, note: Note) -> Opti
             text = file.read(LONGEST[kind] + 1)
         if len(text) > LONGEST[kind]:
             raise OSError(0, f"it has more than {LONGEST[kind]} bytes", path)
+        return text.decode(errors="replace")
     except OSError as error:
         if named is not None:
             raise OSError(error.errno or 0, error.strerror or str(error), path) from None
         note(f"{path} is left out: {error.strerror}")
         return None
-    return text.decode(errors="replace")
 
 
 def _names_of(listing: str) -> Optional[str]:
@@ -95,7 +94,7 @@ def _with_names(start: Start, named: Optional[str], found: Optional[str], note: 
         return start(found), found
     except agc.Error as refused:
         console = start(None)  # raises once more if it was not for the names
-        note(f"{found} is left out: {_reason(refused)}")
+        note(f"{found} is left out: {reason(refused)}")
         return console, None
 
 
@@ -109,12 +108,13 @@ def _with_tables(console: agc.Console, named: Optional[str], found: Optional[str
     except agc.Refused as refused:
         if named is not None:
             raise
-        note(f"the tables beside the rope are left out: {_reason(refused)}")
+        note(f"the tables beside the rope are left out: {reason(refused)}")
         return None
     return watch
 
 
-def _reason(refused: agc.Error) -> str:
+def reason(refused: agc.Error) -> str:
+    """Returns why a console refuses something, without its name."""
     return str(refused).replace("agc-console: ", "", 1)
 
 

@@ -4,8 +4,6 @@ from typing import Dict, List, Optional
 
 from agc import Breakpoint, Console
 
-MOST_BREAKPOINTS = 8
-
 
 class Breakpoints:
     """The breakpoints by the texts that the user gave them. It is used by the machine's thread alone."""
@@ -18,11 +16,6 @@ class Breakpoints:
     def texts(self) -> List[str]:
         """The breakpoints, in the words of the console's `break`."""
         return list(self._numbers)
-
-    @property
-    def is_full(self) -> bool:
-        """Whether there are as many as there may be."""
-        return len(self._numbers) >= MOST_BREAKPOINTS
 
     def add(self, text: str) -> None:
         """Sets a breakpoint; `Refused` if it is none."""

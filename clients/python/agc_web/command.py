@@ -12,12 +12,10 @@ from contextlib import suppress
 from typing import Any, Callable, Dict, List, Optional, Sequence, Tuple
 
 import agc
-from agc_web.beside import Beside, opened, texts_of
-from agc_web.clock import SPEEDS
+from agc_web.beside import LONGEST, Beside, opened, reason, texts_of
 from agc_web.ending import UNSAVED, Ending
 from agc_web.film import Films
 from agc_web.journal import Repeat
-from agc_web.rewinder import HISTORY
 from agc_web.saving import ScriptFile, print_out, save_or_print, study
 from agc_web.server import HERE, Server, is_reachable
 from agc_web.session import Session
@@ -35,24 +33,23 @@ def serve(
     listen: str = HERE,
     watch: Optional[str] = None,
     names: Optional[str] = None,
-    guide: Optional[str] = None,
-    listing: Optional[str] = None,
-    quantities: Optional[str] = None,
-    nouns: Optional[str] = None,
     form: Optional[str] = None,
     save: Optional[str] = None,
     open_page: bool = False,
     begin: Optional[Callable[[Session], Any]] = None,
+    **texts: Optional[str],
 ) -> str:
     """Serves the page of a console until Control-C, SIGTERM or the terminal's end, and returns the script that repeats the
     session.
 
-    The console is at cycle 0, and `detached`. `instruments` are described in agc_web.ticks. The port is 8437, or
-    a free one if that is taken and none is named. `listen` is the
-    address, which other computers may reach: then the page has the printed address in large letters. `guide` is the text of
-    guided steps, `listing` that of the source's listing, `quantities` that of quantities, `nouns` that of verbs and nouns. `begin` is called with the session before time can run. Raises
-    `OSError` if the port cannot be had, or if the script cannot be saved or would replace something; its `filename` says
-    which of them. A signal that comes after the script was saved or printed ends the program at once."""
+    The console is at cycle 0, and `detached`. `instruments` are described in agc_web.ticks. The port is 8437, or a free one if
+    that is taken and none is named. `listen` is the address, which other computers may reach: then the page has the printed
+    address in large letters. `begin` is called with the session before time can run. `texts` are those for the page: `guide`,
+    `listing`, `quantities` and `nouns`, as far as there are. Raises `OSError` if the port cannot be had, or if the script
+    cannot be saved or would replace something; its `filename` says which of them. A signal that comes after the script was saved
+    or printed ends the program at once."""
+    if not set(texts) <= set(LONGEST):
+        raise TypeError(f"texts are {', '.join(LONGEST)}")
     file = ScriptFile(save) if save is not None else None
     with Ending() as ending:
         session = Session(console, instruments, watch)
@@ -60,8 +57,9 @@ def serve(
         ending.kill = lambda: _kill(console, films)
         server = None
         try:
-            texts = {"guide": guide, "quantities": quantities, "nouns": nouns, "listing": listing is not None}
-            about = {**_about(console, names, watch), **texts}
+            listing = texts.get("listing")
+            about: Dict[str, Any] = {**dict.fromkeys(LONGEST), **texts, "listing": listing is not None}
+            about.update(_about(console, names, watch))
             server = _bound(session, about, port, films, listen)
             server.source = {"listing": listing, "rope": b64encode(console.rope_bytes or b"").decode(), "form": form}
             if begin is not None:
@@ -84,7 +82,8 @@ def main(words: Optional[List[str]] = None) -> int:
             ScriptFile(asked.save)
         texts = texts_of(vars(asked), asked.rope, _say)
     except OSError as error:
-        return _refused(f"{error.filename}: {error.strerror}", REFUSED)
+        _say(f"{error.filename}: {error.strerror}")
+        return REFUSED
     try:
         start = lambda names: agc.Console(asked.rope, asked.script, form=asked.form, names=names, detached=True)
         console, found = opened(start, Beside(asked.names, asked.watch, **texts), asked.rope, _say)
@@ -94,19 +93,15 @@ def main(words: Optional[List[str]] = None) -> int:
                 save=asked.save, open_page=asked.open, listen=asked.listen, begin=attached(asked.instruments, asked.listen),
             )
     except agc.Error as error:
-        return _refused(str(error).replace("agc-console: ", "", 1), REFUSED)
+        _say(reason(error))
+        return REFUSED
     except OSError as error:
         place = "" if error.filename is None else f"{error.filename}: "
-        return _refused(f"{place}{error.strerror or error}", UNSAVED)
+        _say(f"{place}{error.strerror or error}")
+        return UNSAVED
     except KeyboardInterrupt:  # before there was a session, or after it was saved
         pass
     return SAVED
-
-
-def _refused(reason: str, status: int) -> int:
-    """Says why the program ends, and returns its status."""
-    _say(reason)
-    return status
 
 
 def _say(text: str) -> None:
@@ -138,11 +133,7 @@ def attached(port: Optional[int], listen: str = HERE) -> Optional[Callable[[Sess
     """Returns what attaches the sockets of other programs' instruments, if there is a port for them."""
     if port is None:
         return None
-    try:
-        from agc_web import instruments
-    except ImportError:
-        print("agc-web: --instruments needs agc_web/instruments.py, which is not here", file=sys.stderr)
-        sys.exit(2)
+    from agc_web import instruments  # not before: it is a program, too
     first = port
     if is_reachable(listen):
         _say(f"warning: whoever reaches {listen} can use the machine by the instruments' ports: they know no passwords")
@@ -154,7 +145,7 @@ def _about(console: agc.Console, names: Optional[str], watch: Optional[str]) -> 
     places = _places_in(names)
     return {
         "rope": os.fspath(console.rope), "names": [name for _, name in places], "places": [place for place, _ in places],
-        "watch": watch, "speeds": SPEEDS, "history": HISTORY,
+        "watch": watch,
     }
 
 

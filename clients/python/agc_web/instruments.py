@@ -11,7 +11,6 @@ the outbox of each client.
 """
 
 import argparse
-import ipaddress
 import os
 import selectors
 import socket
@@ -27,14 +26,14 @@ from typing import Callable, Deque, Dict, List, NamedTuple, Optional, Tuple
 from agc import LAST_CYCLE, Console, Ended, Error, Refused, Write
 from agc_web import protocol
 from agc_web.ending import Ending
-from agc_web.protocol import Board, Inexpressible, OutOfStep, Packet, PacketReader
+from agc_web.protocol import Board, Fault, Inexpressible, Packet, PacketReader
 from agc_web.saving import ScriptFile, save_or_print
+from agc_web.server import HERE, is_reachable
 from agc_web.session import KEY_GAP, SPEEDS, Session, Unable
 
 PORT = 19697
 PORTS = 10
 WAITING = 16  # connections that wait to be taken on each port
-HERE = "127.0.0.1"
 TICK = 0.02  # seconds between two looks at the machine, for what blinks and keys that wait
 CHUNK = 65_536  # bytes that are taken from a client at once: more than it may spend, so that a flood is seen whole
 SLICE = 200  # inputs that the machine takes at once
@@ -72,21 +71,6 @@ class Log:
             _say("more lines of this second are left out")
 
 
-class Budget:
-    """What a client may send: so much a second, and as much at once if it was quiet for a second."""
-
-    def __init__(self, now: float) -> None:
-        self._left = float(ALLOWANCE)
-        self._at = now
-
-    def spend(self, cost: int, now: float) -> bool:
-        """Takes a cost off, and returns whether it was left."""
-        self._left = min(float(ALLOWANCE), self._left + (now - self._at) * ALLOWANCE)
-        self._at = now
-        self._left -= cost
-        return self._left >= 0
-
-
 class Input(NamedTuple):
     """A word for a channel, of which the mask's bits count."""
 
@@ -98,10 +82,6 @@ class Input(NamedTuple):
     def cost(self) -> int:
         """What it takes off the client's budget."""
         return 1 if self.channel >= protocol.FIRST_COUNTER_CHANNEL else INPUT_COST
-
-
-class Fault(Exception):
-    """Why a client loses its connection."""
 
 
 class Client:
@@ -122,27 +102,30 @@ class Client:
         self.is_gone = False
         self._reader = PacketReader()
         self._masks: Dict[int, int] = {}
-        self._budget = Budget(now)
+        self._left = float(ALLOWANCE)  # that it may spend
+        self._spent_at = now
         self._halfway_since = now
 
     def inputs(self, data: bytes, now: float) -> List[Input]:
         """Takes bytes from the client, keeps its masks, and returns its inputs. Raises `Fault` if it misbehaves: then no
         input of these bytes acts. So a page of a browser, whose request begins with a letter, does nothing here."""
         found = []
-        try:
-            packets = self._reader.feed(data)
-        except OutOfStep:
-            raise Fault("it sends rubbish") from None
-        for packet in packets:
+        for packet in self._reader.feed(data):
             entry = Input(packet.channel, packet.word, self._masks.get(packet.channel, protocol.ALL_BITS))
-            if not self._budget.spend(1 if packet.is_mask else entry.cost, now):
-                raise Fault("it floods the machine")
+            self._spend(1 if packet.is_mask else entry.cost, now)
             if packet.is_mask:
                 self._masks[packet.channel] = packet.word
             else:
                 found.append(entry)
         self._halfway_since = now
         return found
+
+    def _spend(self, cost: int, now: float) -> None:
+        """Takes a cost off what the client may send: so much a second, and as much at once if it was quiet for a second."""
+        self._left = min(float(ALLOWANCE), self._left + (now - self._spent_at) * ALLOWANCE) - cost
+        self._spent_at = now
+        if self._left < 0:
+            raise Fault("it floods the machine")
 
     def check(self, now: float) -> None:
         """Raises `Fault` if the client keeps us waiting."""
@@ -177,14 +160,12 @@ Keys = Deque[Tuple[Client, Input]]
 class Desk:
     """What stands between the machine and the clients. All of it runs on the machine's thread."""
 
-    def __init__(self, session: Session, log: Log, ring: Callable[[], None]) -> None:
-        """`ring` wakes the network thread when there is something to send."""
+    def __init__(self, session: Session, log: Log) -> None:
         self.refused = 0
         """How many inputs were refused."""
         self._session = session
         self._log = log
         self._log_refusal = Log()
-        self._ring = ring
         self._board = Board()
         self._seen = 0
         """How many of the machine's writes are on the board."""
@@ -207,7 +188,7 @@ class Desk:
         self._board.note(write.channel, write.value)
         if self._search is not None:
             self._search.append(write)
-        if protocol.can_send(write.channel):
+        if write.channel <= protocol.LAST_CHANNEL and write.channel != protocol.SHOWN_LAMPS:
             self._broadcast(Packet(write.channel, write.value))
         if write.channel == protocol.LAMPS:
             self._show_lamps(write.cycle)
@@ -217,7 +198,6 @@ class Desk:
         data = packet.encode()
         for client in self._clients:
             client.put(data)
-        self._ring()
 
     def _show_lamps(self, cycle: int) -> None:
         """Sends the lamps, if they are others than before."""
@@ -361,34 +341,24 @@ class Instruments:
     def __init__(self, session: Session, listeners: List[socket.socket]) -> None:
         self._session = session
         self._log = Log()
-        self._desk = Desk(session, self._log, self._ring)
+        self.desk = Desk(session, self._log)
         self._listeners = listeners
         self._clients: Dict[int, Client] = {}
         self._selector = selectors.DefaultSelector()
-        self._bell, self._ear = socket.socketpair()
-        self._is_rung = False
         self._closing = False
         self._thread = threading.Thread(target=self._run, name="instruments", daemon=True)
 
-    @property
-    def refused(self) -> int:
-        """How many inputs were refused."""
-        return self._desk.refused
-
     def start(self) -> None:
         """Begins to serve."""
-        self._session.inject(self._desk.begin)
-        for each in (*self._listeners, self._bell, self._ear):
-            each.setblocking(False)
+        self._session.inject(self.desk.begin)
         for listener in self._listeners:
+            listener.setblocking(False)
             self._selector.register(listener, selectors.EVENT_READ, listener)
-        self._selector.register(self._ear, selectors.EVENT_READ)
         self._thread.start()
 
     def close(self) -> None:
         """Lets go of all clients and ports."""
         self._closing = True
-        self._ring()
         self._thread.join(timeout=10)
 
     def _run(self) -> None:
@@ -399,7 +369,7 @@ class Instruments:
                 for key, events in self._selector.select(max(0.0, due - time.monotonic())):
                     self._meet(key, events)
                 if time.monotonic() >= due:
-                    self._on_machine(self._desk.refresh)
+                    self._on_machine(self.desk.refresh)
                     due = time.monotonic() + TICK
                 for client in list(self._clients.values()):
                     self._tend(client, self._send)
@@ -408,10 +378,7 @@ class Instruments:
 
     def _meet(self, key: selectors.SelectorKey, events: int) -> None:
         """Does what a socket is ready for."""
-        if key.fileobj is self._ear:
-            self._ear.recv(64)
-            self._is_rung = False  # what is put into an outbox from now on rings again
-        elif isinstance(key.data, Client):
+        if isinstance(key.data, Client):
             if events & selectors.EVENT_READ and not key.data.is_gone:
                 self._tend(key.data, self._receive)
         else:
@@ -436,7 +403,7 @@ class Instruments:
         self._clients[port] = client
         self._selector.register(connection, selectors.EVENT_READ, client)
         self._log(f"port {port}: a client has come")
-        self._on_machine(partial(self._desk.welcome, client=client))
+        self._on_machine(partial(self.desk.welcome, client=client))
 
     def _tend(self, client: Client, task: Callable[[Client], None]) -> None:
         """Does something with a client, which may show that it has gone or is at fault."""
@@ -456,7 +423,7 @@ class Instruments:
             raise ConnectionResetError
         inputs = client.inputs(data, time.monotonic())
         for at in range(0, len(inputs), SLICE):
-            self._on_machine(partial(self._desk.take, client=client, inputs=inputs[at:at + SLICE]))
+            self._on_machine(partial(self.desk.take, client=client, inputs=inputs[at:at + SLICE]))
 
     def _send(self, client: Client) -> None:
         """Sends what there is to send; if something is left, waits for room."""
@@ -473,7 +440,7 @@ class Instruments:
         self._selector.unregister(client.connection)
         client.connection.close()
         del self._clients[client.port]
-        self._on_machine(partial(self._desk.forget, client=client, drop_keys=is_fault))
+        self._on_machine(partial(self.desk.forget, client=client, drop_keys=is_fault))
 
     def _let_go(self) -> None:
         """Closes all sockets."""
@@ -481,17 +448,8 @@ class Instruments:
             client.is_gone = True
             client.connection.close()
         self._selector.close()
-        for each in (*self._listeners, self._bell, self._ear):
+        for each in self._listeners:
             each.close()
-
-    def _ring(self) -> None:
-        """Wakes the network thread."""
-        if not self._is_rung:
-            self._is_rung = True
-            try:
-                self._bell.send(b"!")
-            except OSError:
-                pass  # it is closed, or was rung often enough
 
     def _on_machine(self, task: Callable[[Console], None]) -> None:
         """Has the machine's thread do something, and waits for it."""
@@ -533,14 +491,6 @@ def _listeners(address: str, first: int) -> List[socket.socket]:
     return listeners
 
 
-def _is_reachable(address: str) -> bool:
-    """Whether other computers may reach an address."""
-    try:
-        return not ipaddress.ip_address(address).is_loopback
-    except ValueError:
-        return address != "localhost"
-
-
 def main(words: Optional[List[str]] = None) -> int:
     """Runs a machine with instruments and without a page. Returns its status: 0 if it was ended and its script saved or
     printed, 1 if a file or a port is refused or the machine died, 3 if the script was not saved."""
@@ -566,7 +516,7 @@ def _serve(session: Session, asked: argparse.Namespace, file: Optional[ScriptFil
         ending.kill = session.console.kill
         instruments = None
         try:
-            if _is_reachable(asked.listen):
+            if is_reachable(asked.listen):
                 _say(f"warning: whoever reaches {asked.listen} can use the machine: the protocol knows no passwords")
             instruments = attach(session, asked.port, asked.listen)
             session.set_speed(asked.speed)
@@ -579,8 +529,8 @@ def _serve(session: Session, asked: argparse.Namespace, file: Optional[ScriptFil
             session.close()
             if instruments is not None:
                 instruments.close()
-        if instruments.refused:
-            _say(f"{instruments.refused} inputs were refused")
+        if instruments.desk.refused:
+            _say(f"{instruments.desk.refused} inputs were refused")
         if ended is None:
             return status
         _say(ended)

@@ -24,6 +24,12 @@ class Point(NamedTuple):
     cycle: int
     stop: Optional[str]
 
+    @property
+    def limit(self) -> int:
+        """The limit of a run that stands here. An order that stopped the machine needs one cycle more; a machine that stopped
+        at its limit needs none."""
+        return max(1, self.cycle + (self.stop not in (None, "Limit")))
+
 
 class Repeat(NamedTuple):
     """How to repeat a session: its script, and the limit of the run."""
@@ -69,30 +75,15 @@ class Journal:
     def repeat(self) -> Repeat:
         """Returns the script, and the limit at which `agc`, run on it, stands where the session stands."""
         point = self._point
-        return Repeat(self._text(point.events[:point.known]), _limit_at(point))
-
-    def script(self) -> str:
-        """Returns the script that repeats the session."""
-        return self.repeat().script
+        return Repeat(self._text(point.events[:point.known]), point.limit)
 
     def limit(self) -> int:
         """Returns the limit of a run of the script that stands where the session stands."""
-        return _limit_at(self._point)
+        return self._point.limit
 
     def _text(self, events: List[Event]) -> str:
         """Returns a script: the events of the first script come before the others of their cycle."""
-        lines = [(cycle_of(line), 0, line) for line in self._base]
+        lines = [(int(line.split(" ", 1)[0]), 0, line) for line in self._base]
         lines += [(event.cycle, 1, f"{event.cycle} {event.command}") for event in events]
         lines.sort(key=lambda each: each[:2])
         return "".join(line + "\n" for _, _, line in lines)
-
-
-def _limit_at(point: Point) -> int:
-    """Returns the limit of a run that stands at this point. An order that stopped the machine needs one cycle more; a machine
-    that stopped at its limit needs none."""
-    return max(1, point.cycle + (point.stop not in (None, "Limit")))
-
-
-def cycle_of(line: str) -> int:
-    """Returns the cycle of a line of a trace or of a script."""
-    return int(line.split(" ", 1)[0])

@@ -8,7 +8,6 @@ from agc_web.journal import Event
 
 KEYS = tuple("0123456789+-") + ("VERB", "NOUN", "ENTR", "CLR", "RSET", "KEYREL")
 KEY_GAP = 8533  # cycles between two keys: a tenth of a second
-MOST_WAITING = 100  # keys
 
 
 class Keyboard:
@@ -18,11 +17,6 @@ class Keyboard:
         self.waiting: Deque[str] = deque()
         self.pro_down = False
         self._last_key = -KEY_GAP
-
-    @property
-    def is_full(self) -> bool:
-        """Whether no further key may wait."""
-        return len(self.waiting) >= MOST_WAITING
 
     @property
     def pro_comes_down(self) -> bool:

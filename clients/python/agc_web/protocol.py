@@ -72,8 +72,8 @@ class Packet(NamedTuple):
         return Packet(channel, word, bool(first & 0x20))
 
 
-class OutOfStep(Exception):
-    """A byte that cannot stand at its place in a packet."""
+class Fault(Exception):
+    """Why a client loses its connection."""
 
 
 class PacketReader:
@@ -88,11 +88,11 @@ class PacketReader:
         return bool(self._begun)
 
     def feed(self, data: bytes) -> List[Packet]:
-        """Takes the next bytes, and returns the packets that are whole. Raises `OutOfStep`, and returns none of them, if one
-        of the bytes has not the upper bits of its place: this is no client of the protocol."""
+        """Takes the next bytes, and returns the packets that are whole. Raises `Fault`, and returns none of them, if one of
+        the bytes has not the upper bits of its place: this is no client of the protocol."""
         begun = self._begun + data
         if any(byte >> 6 != at & 3 for at, byte in enumerate(begun)):
-            raise OutOfStep()
+            raise Fault("it sends rubbish")
         end = len(begun) & ~3
         self._begun = begun[end:]
         return [Packet.decode(begun[at:at + 4]) for at in range(0, end, 4)]
@@ -116,18 +116,13 @@ def commands_for(channel: int, word: int, before: int) -> List[str]:
         raise Inexpressible(f"channel {channel:o} takes no input: a script's begin at {FIRST_CHANNEL:o}")
     if channel == UPLINK:
         return [f"poke 0 {INLINK:o} {word:05o}", f"raise {INTERRUPTS[UPLINK]}"]
-    if is_key(channel, word):
+    if channel in (KEYBOARD, SECOND_KEYBOARD) and word:  # 0 is a release
         return _key(channel, word)
     if word == before:
         return []
     if channel == PRO_CHANNEL and word ^ before == PRO:
         return ["pro up" if word & PRO else "pro down"]
     return [f"input {channel:o} {word:05o}"]
-
-
-def is_key(channel: int, word: int) -> bool:
-    """Whether a word is a key that goes down; 0 is a release."""
-    return channel in (KEYBOARD, SECOND_KEYBOARD) and word != 0
 
 
 def _key(channel: int, code: int) -> List[str]:
@@ -146,15 +141,11 @@ def _pulse(counter: int, kind: int) -> str:
     return f"pulse {counter:o} {PULSES[kind]}"
 
 
-def is_dark(cycle: int) -> bool:
-    """Whether what blinks is dark: it is lit for three quarters of each 1.28 seconds, and then dark."""
-    return cycle * PULSES_A_CYCLE % BLINK_PULSES >= LIT_PULSES
-
-
 def shown_lamps(lamps: int, cycle: int) -> int:
-    """Returns the word of channel 163 at a cycle, by the word that the program wrote to channel 11."""
-    blinking = lamps & FLASH if is_dark(cycle) else lamps & (KEY_REL | OPR_ERR)
-    return lamps & TEMP | blinking
+    """Returns the word of channel 163 at a cycle, by the word that the program wrote to channel 11. What blinks is lit for three
+    quarters of each 1.28 seconds, and then dark."""
+    is_dark = cycle * PULSES_A_CYCLE % BLINK_PULSES >= LIT_PULSES
+    return lamps & (TEMP | (FLASH if is_dark else KEY_REL | OPR_ERR))
 
 
 class Board:
@@ -178,9 +169,3 @@ class Board:
         for channel in sorted(outputs):
             yield Packet(channel, outputs[channel])
         yield Packet(SHOWN_LAMPS, shown_lamps(self.lamps, cycle))
-
-
-def can_send(channel: int) -> bool:
-    """Whether a write to a channel has a packet: not above channel 377, and not for 163, which would be taken for the
-    lamps."""
-    return channel <= LAST_CHANNEL and channel != SHOWN_LAMPS

@@ -7,7 +7,6 @@ from agc import Console
 from agc_web.journal import Event, Journal
 
 HISTORY = 100  # boundaries that are shown
-AHEAD = 12  # coming boundaries that are shown
 WARM_UP = 400  # cycles before the present one from which a hundred boundaries are found
 LONGEST_BOUNDARY = 8  # cycles; an order takes six at most
 
@@ -50,10 +49,6 @@ class Rewinder:
         while self._console.cycle < cycle and self._console.stop is None:
             count = max(1, (cycle - self._console.cycle) // LONGEST_BOUNDARY)
             self.history.extend(self._console.step(count))
-
-    def ahead(self) -> List[str]:
-        """Returns the coming boundaries."""
-        return self._console.ahead(AHEAD)
 
     def last_change(self) -> Optional[int]:
         """Returns the cycle before the last change of the panel, None if there was none. The machine is where it was."""

@@ -62,7 +62,12 @@ def checked(texts: List[str]) -> List[str]:
     """Returns places as the console reads them. Raises `ValueError` for what is no list of a few places."""
     if not 1 <= len(texts) <= MOST_PLACES:
         raise ValueError(f"places are 1 to {MOST_PLACES}")
-    found = [" ".join(text.split()) for text in texts]
-    if not all(text and len(text) <= 80 and text.isascii() and text.isprintable() for text in found):
+    return [checked_place(text) for text in texts]
+
+
+def checked_place(text: str) -> str:
+    """Returns a place as the console reads it. Raises `ValueError` for what is none."""
+    text = " ".join(text.split())
+    if not text or len(text) > 80 or not text.isascii() or not text.isprintable():
         raise ValueError("a place is a PLACE, `write CCC` or `cell PLACE`")
-    return found
+    return text

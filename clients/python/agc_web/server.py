@@ -70,8 +70,7 @@ class Server(ThreadingHTTPServer):
         """What the page compares before it shows the source: a listing and the rope."""
         self.gate = Gate(is_short=is_reachable(listen))
         self.room = Room()
-        self._holder = ""
-        self._held: Dict[Tuple[int, str], str] = {}  # the windows that hold buttons of instruments
+        self._held: Dict[Optional[Tuple[int, str]], str] = {}  # the windows that hold buttons of instruments, and PRO (None)
         self._thread = threading.Thread(target=self.serve_forever, args=(0.1,), name="server", daemon=True)
         super().__init__((listen, port), Handler)
         self.port = self.server_address[1]
@@ -113,32 +112,22 @@ class Server(ThreadingHTTPServer):
         names = (HERE, "localhost") if address == HERE else (address,)
         return (*(f"{name}:{self.port}" for name in names), *(names if self.port == 80 else ()))
 
-    def hold_pro(self, window: str, down: bool) -> None:
-        """Presses PRO for a window, or lets it come up."""
-        self.session.press("PRO" if down else "PRO up")
-        self._holder = window if down else ""
-
-    def hold_control(self, window: str, instrument: int, name: str, down: bool) -> None:
-        """Presses a button of an instrument for a window, or lets it come up."""
-        self.session.control(instrument, name, down)
-        if down:
-            self._held[instrument, name] = window
+    def hold(self, window: str, down: bool, button: Optional[Tuple[int, str]] = None) -> None:
+        """Presses a button of an instrument, or PRO, for a window, or lets it come up."""
+        if button is None:
+            self.session.press("PRO" if down else "PRO up")
         else:
-            self._held.pop((instrument, name), None)
+            self.session.control(*button, down)
+        self._held.pop(button, None)
+        if down:
+            self._held[button] = window
 
     def release(self, window: str) -> None:
         """Lets PRO and the buttons of instruments come up that a window that has gone held."""
-        if window and self._holder == window:
-            try:
-                self.hold_pro(window, False)
-            except (Unable, Ended):
-                pass
-        for (instrument, name), holder in list(self._held.items()):
+        for button, holder in list(self._held.items()):
             if window and holder == window:
-                try:
-                    self.hold_control(window, instrument, name, False)
-                except (Unable, Ended):
-                    pass
+                with suppress(Unable, Ended):
+                    self.hold(window, False, button)
 
     def process_request(self, request: Any, client_address: Any) -> None:
         """Starts a thread for a connection."""
@@ -294,8 +283,7 @@ class Handler(BaseHTTPRequestHandler):
     def _send(self, body: bytes, kind: str, status: HTTPStatus = HTTPStatus.OK, **more: str) -> None:
         """Sends an answer."""
         self._send_head(kind, status, **{"Content_Length": str(len(body)), **more})
-        self.wfile.write(body)
-        self.wfile.flush()
+        self._send_bytes(body)
 
     def _send_head(self, kind: str, status: HTTPStatus, **more: str) -> None:
         self.connection.settimeout(PATIENCE)
@@ -474,7 +462,7 @@ def is_sure(body: Dict[str, Any]) -> bool:
 
 COMMANDS: Dict[str, Callable[[Server, Dict[str, Any]], None]] = {
     "key": lambda server, body: server.session.press(named_key(item(body, "name", str))),
-    "pro": lambda server, body: server.hold_pro(item(body, "window", str), item(body, "down", bool)),
+    "pro": lambda server, body: server.hold(item(body, "window", str), item(body, "down", bool)),
     "play": lambda server, body: server.session.play(),
     "pause": lambda server, body: server.session.pause(),
     "speed": lambda server, body: server.session.set_speed(item(body, "times", int)),
@@ -484,8 +472,8 @@ COMMANDS: Dict[str, Callable[[Server, Dict[str, Any]], None]] = {
     "undo": lambda server, body: server.session.undo(is_sure(body)),
     "break": lambda server, body: server.session.add_breakpoint(item(body, "place", str)),
     "unbreak": lambda server, body: server.session.remove_breakpoint(item(body, "place", str)),
-    "control": lambda server, body: server.hold_control(
-        item(body, "window", str), item(body, "instrument", int), item(body, "name", str), item(body, "down", bool)
+    "control": lambda server, body: server.hold(
+        item(body, "window", str), item(body, "down", bool), (item(body, "instrument", int), item(body, "name", str))
     ),
 }
 

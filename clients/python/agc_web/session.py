@@ -1,40 +1,35 @@
 """The one machine behind the page: a console, the thread that owns it, and its clock.
 
-A `Session` runs all commands to its console on one thread, the machine's thread. Other threads use it so:
-
-    session.inject(task)       runs task(console) on the machine's thread, between two boundaries, as soon as it can, and
-                               returns what the task returns; the task may press keys, send pulses, read cells ..
-    session.on_write(callback) calls callback(write) on the machine's thread for each channel write, in order, with an
-                               `agc.Write` (cycle, channel, value). Writes that are run again as time goes back are not
-                               reported. The callback has to be quick; it may call `inject`, which then runs at once.
-    session.repeat()           returns the script that repeats the session, and the limit of its run, whatever the machine
-                               does at the moment.
-
-Each event that goes through the console, whoever gives it, is written into the session's journal. So the exported
+A `Session` runs all commands to its console on one thread, the machine's thread. Other threads use `inject`, `on_write` and
+`repeat`. Each event that goes through the console, whoever gives it, is written into the session's journal. So the exported
 script repeats it, going back drops it, and undo brings it back. Reported writes come in pieces of at most 10 ms of
 machine time at the hardware's pace: an answer to a write is injected up to that much later than the write.
 
 `agc_web.ticks` says what an instrument is.
 """
 
+import functools
 import re
 import time
 from collections import deque
-from typing import Any, Callable, Deque, List, NamedTuple, Optional, Sequence, Union
+from typing import Any, Callable, Deque, List, NamedTuple, Optional, Sequence, TypeVar, Union, cast
 
 from agc import EVENTS, Answer, Console, Ended, Refused, Write
-from agc_web.breakpoints import MOST_BREAKPOINTS, Breakpoints
+from agc_web.breakpoints import Breakpoints
 from agc_web.clock import SPEEDS, Clock
 from agc_web.journal import Event, Journal, Repeat
-from agc_web.keyboard import KEY_GAP, KEYS, MOST_WAITING, Keyboard
+from agc_web.keyboard import KEY_GAP, KEYS, Keyboard
 from agc_web.news import News
 from agc_web.rewinder import HISTORY, WARM_UP, Rewinder
-from agc_web.searcher import Found, checked, last_hit
+from agc_web.searcher import Found, checked, checked_place, last_hit
 from agc_web.ticks import Control, Mark, Past, Ticker, View
 from agc_web.worker import Unable, Worker
 
 __all__ = ["HISTORY", "KEYS", "KEY_GAP", "NEWS", "SPEEDS", "Session", "Sure", "Unable"]
 
+AHEAD = 12  # coming boundaries that are shown
+MOST_BREAKPOINTS = 8
+MOST_WAITING = 100  # keys
 WAKE = 0.01  # seconds between two pieces
 RESTING = 0.25  # seconds between two looks whether the console is still there, if time stands
 QUIET_NEWS = 0.04  # seconds between two looks if nothing was written
@@ -42,6 +37,9 @@ NEWS = 0.02  # seconds between two looks at least
 LOOK_SHARE = 4  # times as long as a look took until the next one, so that the machine has the time
 WRITTEN = re.compile(r"write (\d+) (\d+) (\d+)$|(\d+) .* > (\d{3}) (\d{5}) \| ")
 """A channel write in an answer: "write 30 010 44017", or in a trace's line "30 4071 01010 WRITE 010 > 010 44017 | .."."""
+
+
+Method = TypeVar("Method", bound=Callable[..., Any])
 
 
 class Undo(NamedTuple):
@@ -61,6 +59,15 @@ class Sure(Exception):
     def __init__(self, count: int) -> None:
         super().__init__(f"this drops {count} {'event' if count == 1 else 'events'} given since")
         self.count = count
+
+
+def _on_machine(method: Method) -> Method:
+    """Has a method run on the machine's thread, whoever calls it."""
+    @functools.wraps(method)
+    def run(self: "Session", *words: Any, **named: Any) -> Any:
+        return self.call(lambda: method(self, *words, **named))
+
+    return cast(Method, run)
 
 
 class Session:
@@ -105,19 +112,22 @@ class Session:
         return self._worker.call(task)
 
     def inject(self, task: Callable[[Console], Any]) -> Any:
-        """Runs task(console) on the machine's thread, between two boundaries."""
+        """Runs task(console) on the machine's thread, between two boundaries, as soon as it can, and returns what the task
+        returns; the task may press keys, send pulses, read cells .."""
         return self.call(lambda: task(self.console))
 
     def on_write(self, callback: Callable[[Write], None]) -> None:
-        """Calls a callback for each channel write from now on."""
+        """Calls callback(write) on the machine's thread for each channel write from now on, in order, with an `agc.Write` (cycle,
+        channel, value). Writes that are run again as time goes back are not reported. The callback has to be quick; it may call
+        `inject`, which then runs at once."""
         self._callbacks.append(callback)
 
     def script(self) -> str:
         """Returns the script that repeats the session, without waiting for the machine."""
-        return self.journal.script()
+        return self.repeat().script
 
     def repeat(self) -> Repeat:
-        """Returns the script and the limit of its run, without waiting for the machine."""
+        """Returns the script that repeats the session, and the limit of its run, whatever the machine does at the moment."""
         return self.journal.repeat()
 
     @property
@@ -146,63 +156,6 @@ class Session:
         self.console.kill()
         self.console.close()
         self.news.close()
-
-    # the page's requests; each runs on the machine's thread
-
-    def press(self, name: str) -> None:
-        """Presses a key now, or as soon as the keys before it are through."""
-        self.call(lambda: self._press(name))
-
-    def play(self) -> None:
-        """Lets time go on."""
-        self.call(self._play)
-
-    def pause(self) -> None:
-        """Stops time, after the hundred boundaries that are shown."""
-        self.call(self._pause)
-
-    def set_speed(self, times: int) -> None:
-        """Sets how many times the hardware's pace the machine goes."""
-        self.call(lambda: self._set_speed(times))
-
-    def step(self) -> None:
-        """Goes on by one boundary; time stops."""
-        self.call(self._step_once)
-
-    def go_there(self, cycle: int, sure: bool = False) -> None:
-        """Goes back to a cycle, or on to one that was reached before; time stops. Raises `Sure` if going back drops events
-        and the user was not asked."""
-        self.call(lambda: self._go_there(cycle, sure))
-
-    def go_back_to_change(self, sure: bool = False) -> None:
-        """Goes back to before the last change of the panel; time stops. Raises `Sure` as `go_there` does, and `Unable` if the
-        panel has not changed yet."""
-        self.call(lambda: self._go_back_to_change(sure))
-
-    def find(self, places: List[str], before: Optional[int] = None) -> Found:
-        """Returns the last boundary before a cycle, or before now, that hits one of these places, in the words of the console's
-        `back until`; the machine stays where it is. Raises `Refused` for what is no place, `Unable` if there is no hit."""
-        return self.call(lambda: self._find(checked(places), before))  # type: ignore[no-any-return]
-
-    def past_views(self) -> List[View]:
-        """Returns what the instruments showed from the beginning on, for a film."""
-        return self.call(lambda: self._ticker.past_views(self.console.cycle))  # type: ignore[no-any-return]
-
-    def undo(self, sure: bool = False) -> None:
-        """Restores what the last going back dropped."""
-        self.call(lambda: self._take_back(sure))
-
-    def add_breakpoint(self, text: str) -> None:
-        """Adds a breakpoint: PLACE, `write CCC` or `cell PLACE`, in the words of the console's `break`."""
-        self.call(lambda: self._add_breakpoint(text))
-
-    def remove_breakpoint(self, text: str) -> None:
-        """Removes a breakpoint."""
-        self.call(lambda: self._remove_breakpoint(text))
-
-    def control(self, instrument: int, name: str, down: bool) -> None:
-        """Tells an instrument that a button of its panel went down or came up."""
-        self.call(lambda: self._control(instrument, name, down))
 
     # the machine's thread
 
@@ -237,10 +190,6 @@ class Session:
         self.playing = False
         if self.ended is None:
             self.ended = f"agc-console has ended: {ended}"
-        self._publish_time()
-
-    def _note(self, text: str) -> None:
-        self.trouble = text
         self._publish_time()
 
     def _answered(self, command: str, answer: Answer) -> None:
@@ -305,7 +254,9 @@ class Session:
         """Returns the cycles at which a key or a tick is due next."""
         return [*self._keyboard.next_cycles(self.console.cycle), *self._ticker.next_cycles()]
 
-    def _play(self) -> None:
+    @_on_machine
+    def play(self) -> None:
+        """Lets time go on."""
         self._want_machine()
         if not self.playing:
             self.playing = True
@@ -313,7 +264,8 @@ class Session:
             self._clock.start(self.console.cycle)
             self._publish_time()
 
-    def _pause(self) -> None:
+    @_on_machine
+    def pause(self) -> None:
         """Stops time. The boundaries that are shown are a hundred more, which take some milliseconds of machine time; with
         breakpoints, which they might run past, they are found by running anew."""
         if not self.playing:
@@ -349,17 +301,21 @@ class Session:
         self._is_dirty = True
         self._keyboard.find(self.journal.events)
 
-    def _set_speed(self, times: int) -> None:
+    @_on_machine
+    def set_speed(self, times: int) -> None:
+        """Sets how many times the hardware's pace the machine goes."""
         if times not in SPEEDS:
             raise ValueError(f"speed {times}: 1, 10, 100 or 1000")
         self._clock.speed = times
         self._clock.start(self.console.cycle)
         self._publish_time()
 
-    def _step_once(self) -> None:
+    @_on_machine
+    def step(self) -> None:
+        """Goes on by one boundary; time stops."""
         self._want_machine()
         if self.playing:
-            self._pause()
+            self.pause()
         self.hit = self.trouble = ""
         self._press_due()
         self._ticker.tick_due(self.console)
@@ -378,13 +334,15 @@ class Session:
 
     # keys and buttons
 
-    def _press(self, name: str) -> None:
+    @_on_machine
+    def press(self, name: str) -> None:
+        """Presses a key now, or as soon as the keys before it are through."""
         if name not in KEYS + ("PRO", "PRO up"):
             raise ValueError(f"no key: {name!r}")
         self._want_machine()
         if name == "PRO up" and not self._keyboard.pro_comes_down:
             return
-        if self._keyboard.is_full:
+        if self.waiting >= MOST_WAITING:
             raise Unable(f"{MOST_WAITING} keys wait already")
         self._keyboard.waiting.append(name)
         self._press_due()
@@ -400,28 +358,37 @@ class Session:
             self._keyboard.press_next(self.console)
         except Refused as refused:
             self._keyboard.waiting.clear()
-            self._note(f"{name} was not taken: {refused}")
+            self.trouble = f"{name} was not taken: {refused}"
+            self._publish_time()
             return
         if not self.playing:
             last = self.journal.events[-1]
             self._rewinder.history.append(f"{last.cycle} - {last.command}")
 
-    def _control(self, number: int, name: str, down: bool) -> None:
+    @_on_machine
+    def control(self, number: int, name: str, down: bool) -> None:
+        """Tells an instrument that a button of its panel went down or came up."""
         self._ticker.control(number, name, down, self.console.cycle)
         self._look()
 
     # back, on, and undo
 
-    def _go_there(self, cycle: int, sure: bool) -> None:
+    @_on_machine
+    def go_there(self, cycle: int, sure: bool = False) -> None:
+        """Goes back to a cycle, or on to one that was reached before; time stops. Raises `Sure` if going back drops events
+        and the user was not asked."""
         self._want_console()
         if cycle < self.console.cycle:
             self._go_back(max(0, cycle), sure)
         elif self.console.cycle < self.furthest:
             self._go_ahead(min(cycle, self.furthest))
         else:
-            self._pause()
+            self.pause()
 
-    def _go_back_to_change(self, sure: bool) -> None:
+    @_on_machine
+    def go_back_to_change(self, sure: bool = False) -> None:
+        """Goes back to before the last change of the panel; time stops. Raises `Sure` as `go_there` does, and `Unable` if the
+        panel has not changed yet."""
         self._want_console()
         now = (self.console.cycle, len(self.journal.events), len(self._undo))
         if self._last_change is None or self._last_change[0] != now:
@@ -479,7 +446,7 @@ class Session:
                 break
             self._run_to(each.cycle)
             if isinstance(each, Control):
-                self._ticker.repeat(each)
+                self._ticker.control(each.instrument, each.name, each.down, each.cycle)
             elif each.by_user:
                 self._replay([each])
             else:
@@ -493,15 +460,21 @@ class Session:
             self._ticker.tick_due(self.console)
             self.console.go_to(min([cycle, *self._ticker.next_cycles()]))
 
-    def _find(self, places: List[str], before: Optional[int]) -> Found:
+    @_on_machine
+    def find(self, places: List[str], before: Optional[int] = None) -> Found:
+        """Returns the last boundary before a cycle, or before now, that hits one of these places, in the words of the console's
+        `back until`; the machine stays where it is. Raises `Refused` for what is no place, `Unable` if there is no hit."""
+        places = checked(places)
         self._want_console()
         here = self.console.cycle if before is None else max(0, min(before, self.console.cycle))
-        found = last_hit(self.console, self.journal.script(), here, places)
+        found = last_hit(self.console, self.script(), here, places)
         if found is None:
             raise Unable(f"{' or '.join(places)} was not hit before cycle {here}")
         return found
 
-    def _take_back(self, sure: bool) -> None:
+    @_on_machine
+    def undo(self, sure: bool = False) -> None:
+        """Restores what the last going back dropped."""
         self._want_console()
         if not self._undo:
             raise Unable("there is nothing to undo")
@@ -520,24 +493,31 @@ class Session:
 
     # breakpoints
 
-    def _add_breakpoint(self, text: str) -> None:
-        text = " ".join(text.split())
-        if not text or len(text) > 80 or not text.isascii() or not text.isprintable():
-            raise ValueError("a breakpoint is a place, `write CCC` or `cell PLACE`")
+    @_on_machine
+    def add_breakpoint(self, text: str) -> None:
+        """Adds a breakpoint: PLACE, `write CCC` or `cell PLACE`, in the words of the console's `break`."""
+        text = checked_place(text)
         if text in self.breakpoints:
             return
         self._want_console()
-        if self._breakpoints.is_full:
+        if len(self.breakpoints) >= MOST_BREAKPOINTS:
             raise Unable(f"there are {MOST_BREAKPOINTS} breakpoints already")
         self._breakpoints.add(text)
         self._publish_time()
 
-    def _remove_breakpoint(self, text: str) -> None:
+    @_on_machine
+    def remove_breakpoint(self, text: str) -> None:
+        """Removes a breakpoint."""
         self._want_console()
         self._breakpoints.remove(text)
         self._publish_time()
 
     # what the page is shown
+
+    @_on_machine
+    def past_views(self) -> List[View]:
+        """Returns what the instruments showed from the beginning on, for a film."""
+        return self._ticker.past_views(self.console.cycle)
 
     def _look_if_due(self) -> None:
         """Looks at the machine if time has gone by: soon where something was written."""
@@ -564,13 +544,9 @@ class Session:
             self.news.publish("tables", self.console.tables(self.watch))
         if self._ticker.instruments:
             self.news.publish("instruments", self._ticker.views())
-        self._publish_boundaries()
-
-    def _publish_boundaries(self) -> None:
-        """Publishes the boundaries before and after the present one, if time stands."""
         stands = not self.playing
         self.news.publish("history", self.history if stands else [])
-        self.news.publish("ahead", self._rewinder.ahead() if stands and self.console.stop is None else [])
+        self.news.publish("ahead", self.console.ahead(AHEAD) if stands and self.console.stop is None else [])
 
     def _publish_time(self) -> None:
         """Publishes where time stands."""

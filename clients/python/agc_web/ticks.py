@@ -97,10 +97,6 @@ class Ticker:
             raise ValueError(f"no control: {name!r:.20}") from None
         self._controls.append(Control(cycle, self._ticks, number, name, down))
 
-    def repeat(self, control: Control) -> None:
-        """Calls an instrument once more for a button that going back has dropped."""
-        self.control(control.instrument, control.name, control.down, control.cycle)
-
     def pressed_since(self, cycle: int) -> int:
         """Returns how many buttons went down from a cycle on."""
         return sum(control.cycle >= cycle and control.down for control in self._controls)

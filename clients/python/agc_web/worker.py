@@ -4,7 +4,8 @@ import queue
 import threading
 from concurrent.futures import Future
 from concurrent.futures import TimeoutError as Late
-from typing import Any, Callable, Optional, Tuple
+from contextlib import suppress
+from typing import Any, Callable, Tuple
 
 from agc import Ended
 
@@ -59,7 +60,7 @@ class Worker:
         if self.thread.is_alive():
             kill()
             self.thread.join(LEAVING)
-        self._refuse_all()
+        self._do_jobs(0)
 
     def _run(self) -> None:
         """Does what is requested, and its own work, until it is closed."""
@@ -67,21 +68,21 @@ class Worker:
             self._do_jobs(self.wait)
             if not self._closing:
                 self._work()
-        self._refuse_all()
+        self._do_jobs(0)
 
-    def _do_jobs(self, patience: Optional[float]) -> None:
+    def _do_jobs(self, patience: float) -> None:
         """Does the jobs that are there; waits for the first one."""
-        try:
-            future, task = self._jobs.get(timeout=patience)
-            while not self._closing:
-                self._do(future, task)
-                future, task = self._jobs.get_nowait()
-            _refuse(future)
-        except queue.Empty:
-            pass
+        with suppress(queue.Empty):
+            self._do(*self._jobs.get(timeout=patience))
+            while True:
+                self._do(*self._jobs.get_nowait())
 
     def _do(self, future: "Future[Any]", task: Callable[[], Any]) -> None:
+        """Does a job; once the thread is being closed, it is too late for it."""
         if not future.set_running_or_notify_cancel():
+            return
+        if self._closing:
+            future.set_exception(Ended("the session has ended", None))
             return
         try:
             future.set_result(task())
@@ -90,17 +91,3 @@ class Worker:
             future.set_exception(ended)
         except BaseException as error:  # goes to the thread that asked
             future.set_exception(error)
-
-    def _refuse_all(self) -> None:
-        """Refuses the jobs that are left."""
-        try:
-            while True:
-                _refuse(self._jobs.get_nowait()[0])
-        except queue.Empty:
-            pass
-
-
-def _refuse(future: "Future[Any]") -> None:
-    """Refuses a job: it is too late for it."""
-    if future.set_running_or_notify_cancel():
-        future.set_exception(Ended("the session has ended", None))
