@@ -99,7 +99,6 @@ class Client:
         self.refused = 0
         """How many inputs of this client were refused."""
         self.holds_pro = False
-        self.is_gone = False
         self._reader = PacketReader()
         self._masks: Dict[int, int] = {}
         self._left = float(ALLOWANCE)  # that it may spend
@@ -141,16 +140,12 @@ class Client:
         else:
             self.is_behind = True
 
-    def send(self) -> bool:
-        """Sends what the system takes at once, and returns whether something is left."""
-        while self.unsent or self.outbox:
-            if not self.unsent:
-                self.unsent = b"".join(self.outbox.popleft() for _ in range(len(self.outbox)))
-            try:
-                self.unsent = self.unsent[self.connection.send(self.unsent):]
-            except BlockingIOError:
-                return True
-        return False
+    def send(self) -> None:
+        """Sends what the system takes at once; the rest waits for the next time."""
+        if not self.unsent:
+            self.unsent = b"".join(self.outbox.popleft() for _ in range(len(self.outbox)))
+        if self.unsent:
+            self.unsent = self.unsent[self.connection.send(self.unsent):]
 
 
 Keys = Deque[Tuple[Client, Input]]
@@ -208,9 +203,8 @@ class Desk:
 
     def welcome(self, console: Console, client: Client) -> None:
         """Sends a client all that the machine shows now, and its writes from now on."""
-        if not client.is_gone:
-            self._send_all(console, client)
-            self._clients = (*self._clients, client)
+        self._send_all(console, client)
+        self._clients = (*self._clients, client)
 
     def _send_all(self, console: Console, client: Client) -> None:
         outputs = {channel: console.channel(channel) for channel in protocol.OUTPUTS}
@@ -366,8 +360,11 @@ class Instruments:
         due = time.monotonic()
         try:
             while not self._closing:
-                for key, events in self._selector.select(max(0.0, due - time.monotonic())):
-                    self._meet(key, events)
+                for key, _ in self._selector.select(max(0.0, due - time.monotonic())):
+                    if isinstance(key.data, Client):
+                        self._tend(key.data, self._receive)
+                    else:
+                        self._accept(key.data)
                 if time.monotonic() >= due:
                     self._on_machine(self.desk.refresh)
                     due = time.monotonic() + TICK
@@ -375,14 +372,6 @@ class Instruments:
                     self._tend(client, self._send)
         finally:
             self._let_go()
-
-    def _meet(self, key: selectors.SelectorKey, events: int) -> None:
-        """Does what a socket is ready for."""
-        if isinstance(key.data, Client):
-            if events & selectors.EVENT_READ and not key.data.is_gone:
-                self._tend(key.data, self._receive)
-        else:
-            self._accept(key.data)
 
     def _accept(self, listener: socket.socket) -> None:
         """Takes a client, if its port is free."""
@@ -426,17 +415,14 @@ class Instruments:
             self._on_machine(partial(self.desk.take, client=client, inputs=inputs[at:at + SLICE]))
 
     def _send(self, client: Client) -> None:
-        """Sends what there is to send; if something is left, waits for room."""
+        """Sends what there is to send."""
         client.check(time.monotonic())
-        wanted = selectors.EVENT_READ | (selectors.EVENT_WRITE if client.send() else 0)
-        if self._selector.get_key(client.connection).events != wanted:
-            self._selector.modify(client.connection, wanted, client)
+        client.send()
 
     def _drop(self, client: Client, reason: str, is_fault: bool = False) -> None:
         """Lets go of a client, whose port is free again. Keys that wait are dropped if it was at fault."""
         refused = f"; {client.refused} of its inputs were refused" if client.refused else ""
         self._log(f"port {client.port}: {reason}{refused}")
-        client.is_gone = True
         self._selector.unregister(client.connection)
         client.connection.close()
         del self._clients[client.port]
@@ -445,7 +431,6 @@ class Instruments:
     def _let_go(self) -> None:
         """Closes all sockets."""
         for client in self._clients.values():
-            client.is_gone = True
             client.connection.close()
         self._selector.close()
         for each in self._listeners:
