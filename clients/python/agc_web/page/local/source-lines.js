@@ -59,8 +59,8 @@ function followInEditor() {
 
 const isTextRunning = () => listing.read !== null && sourceText().replace(/\n$/, '') === listing.code;
 
-// Whether what runs was woven from the editor's text, or from an earlier one.
-const isWovenHere = () => sourceText() !== '' && session.files?.listing?.split(LINE, 1)[0].match(LISTED)?.[3] === fileNamed(written().name);
+// Whether what runs was woven from the editor's text, or from an earlier one: then the listing's file has the session's name.
+const isWovenHere = () => sourceText() !== '' && session.files?.listing?.split(LINE, 1)[0].match(LISTED)?.[3] === fileNamed(session.files.title);
 
 // Called with each session: it is shown by its lines if it has a listing, or in the editor if it comes from there.
 function followSession() {
