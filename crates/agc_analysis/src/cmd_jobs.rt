@@ -1,4 +1,4 @@
-//! Runs `jobs`: writes how the Executive's tables change in a run.
+//! Runs `jobs`: writes how the Executive's tables change in a run, or the page that shows who had the processor.
 ghost use Rattle.std.specs.Prelude.{◌≡◌, ◌≢◌, ◌⊎◌};
 ghost use Rattle.std.specs.Io.KnownBytes.{Appends, Keeps};
 ghost use Rattle.agc_analysis.specs.Fault.{error_line};
@@ -11,6 +11,7 @@ use crate::fault::AnalysisFault;
 use crate::inputs::read_symbols;
 use crate::remarks::{remark_on_start, stop_of};
 use crate::streams::Streams;
+use crate::timelines::run_timeline;
 use crate::traces::status_of_trace_error;
 use crate::watches::watch_files;
 use agc_io::{OK, ProgressLine};
@@ -21,7 +22,7 @@ use std::alloc::Global;
 use std::io::{Read, Write};
 use std::rt::Files;
 
-/// Writes the table changes in the run of two files. A remark warns if the run stops before the requested cycles.
+/// Writes the table changes in the run of two files, or the page of `--timeline`. A remark warns if the run stops before the requested cycles.
 /// The stop address may be a symbol.
 pub fn run_jobs<R, W: Write, E: Write, N: Write, P: ProgressLine>(
     rt: &R,
@@ -39,6 +40,9 @@ where
     };
     if resolve_until(rt.alloc(), &names, &mut args.options.until).is_err() {
         return AnalysisFault::Refused(LoadFault::Memory).report_to(&mut io.err);
+    }
+    if let Some(path) = &args.timeline {
+        return run_timeline(rt, args, path.as_str(), &names, io);
     }
     let mut inputs = open_run(rt, &args.files);
     let status = write_jobs(rt.alloc(), args, &names, &mut inputs, io);

@@ -8,7 +8,7 @@ ghost use Rattle.agc_analysis.specs.Fault.{IsReported};
 
 use crate::fault::{AnalysisFault, FAULTY};
 use crate::included::{expanded_source, in_files, report_include};
-use crate::new_files::{check_new_paths, check_paths_beside, write_new_file};
+use crate::new_files::{check_new_paths, check_paths_beside, is_written};
 use crate::ropes::{Woven, misnamed_line, weave_text};
 use crate::source_faults::{write_expanded_faults, write_other_faults};
 use crate::streams::Streams;
@@ -319,20 +319,6 @@ where
         Err(_) => {
             let reason = io::Error::from(ErrorKind::OutOfMemory);
             remark_on_file(rt.alloc(), path.as_str(), &reason, remarks);
-            false
-        }
-    }
-}
-
-/// Writes a file beside the rope. If that fails, a remark reports why.
-fn is_written<R, N: Write>(rt: &R, path: &str, bytes: &[u8], remarks: &mut N) -> bool
-where
-    R: Files + AllocGlobal,
-{
-    match write_new_file(rt, path, bytes) {
-        Ok(()) => true,
-        Err(reason) => {
-            remark_on_file(rt.alloc(), path, &reason, remarks);
             false
         }
     }

@@ -30,6 +30,7 @@ mod ropes;
 mod samples;
 mod source_faults;
 mod streams;
+mod timelines;
 mod traces;
 mod watches;
 

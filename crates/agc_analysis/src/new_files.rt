@@ -1,7 +1,8 @@
-//! Writes the files beside a rope, its symbols and its listing: first to a new file beside it, which then takes its name.
+//! Writes the files that options name: a rope's symbols and its listing, and a timeline. Each is first written to a new
+//! file beside it, which then takes its name.
 use agc_cli::ArgsFault;
 use agc_include::{Expanded, name_of_path, path_beside};
-use agc_study_args::WeaveArgs;
+use agc_study_args::{WeaveArgs, remark_on_file};
 use std::alloc::{AllocError, Global};
 use std::fs::{self, File, OpenFile};
 use std::io::{self, ErrorKind, Write};
@@ -52,7 +53,7 @@ where
     match (NewFile::Names.path(args), NewFile::Listing.path(args)) {
         (Some(names), Some(listing)) if is_same_path(rt, names, listing) => Err(refused(
             rt.alloc(),
-            NewFile::Listing,
+            NewFile::Listing.option(),
             listing,
             "this is the file of --write-names",
         )),
@@ -75,6 +76,17 @@ where
     is_same_file(rt, one.as_str(), other.as_str())
 }
 
+/// Checks that there is nothing at a path that an option names.
+pub(crate) fn check_new_file<R>(rt: &R, option: &str, path: &str) -> Result<(), ArgsFault>
+where
+    R: Files + AllocGlobal,
+{
+    match rt.symlink_metadata(path) {
+        Ok(_found) => Err(refused(rt.alloc(), option, path, "the file exists")),
+        Err(_) => Ok(()),
+    }
+}
+
 fn check_new_path<R>(rt: &R, args: &WeaveArgs, file: NewFile) -> Result<(), ArgsFault>
 where
     R: Files + AllocGlobal,
@@ -94,7 +106,7 @@ where
     } else {
         return Ok(());
     };
-    Err(refused(rt.alloc(), file, path, why))
+    Err(refused(rt.alloc(), file.option(), path, why))
 }
 
 /// Checks that the paths of `--write-names` and `--write-listing` lead to none of the files of a source with includes.
@@ -130,7 +142,12 @@ where
             return Err(ArgsFault::Memory);
         };
         if is_same_file(rt, path, other.as_str()) {
-            return Err(refused(rt.alloc(), file, path, "this is a file of the source"));
+            return Err(refused(
+                rt.alloc(),
+                file.option(),
+                path,
+                "this is a file of the source",
+            ));
         }
     }
     Ok(())
@@ -150,21 +167,36 @@ where
     }
 }
 
-fn refused(alloc: Global, file: NewFile, path: &str, why: &str) -> ArgsFault {
-    match refused_text(alloc, file.option(), path, why) {
+/// Returns the error for a rejected value of an option.
+pub(crate) fn refused(alloc: Global, option: &str, value: &str, why: &str) -> ArgsFault {
+    match refused_text(alloc, option, value, why) {
         Ok(text) => ArgsFault::Command(text),
         Err(AllocError) => ArgsFault::Memory,
     }
 }
 
-fn refused_text(alloc: Global, option: &str, path: &str, why: &str) -> Result<String, AllocError> {
+fn refused_text(alloc: Global, option: &str, value: &str, why: &str) -> Result<String, AllocError> {
     format!(in alloc;
-        "error: invalid value '{path}' for '{option}': {why}\n\nFor more information, try '--help'.\n"
+        "error: invalid value '{value}' for '{option}': {why}\n\nFor more information, try '--help'.\n"
     )
 }
 
+/// Writes a file. If that fails, a remark reports why.
+pub(crate) fn is_written<R, N: Write>(rt: &R, path: &str, bytes: &[u8], remarks: &mut N) -> bool
+where
+    R: Files + AllocGlobal,
+{
+    match write_new_file(rt, path, bytes) {
+        Ok(()) => true,
+        Err(reason) => {
+            remark_on_file(rt.alloc(), path, &reason, remarks);
+            false
+        }
+    }
+}
+
 /// Writes bytes to the file at a path. If that fails, the file is as it was.
-pub(crate) fn write_new_file<R>(rt: &R, path: &str, bytes: &[u8]) -> io::Result<()>
+fn write_new_file<R>(rt: &R, path: &str, bytes: &[u8]) -> io::Result<()>
 where
     R: Files + AllocGlobal,
 {

@@ -146,7 +146,14 @@ pub struct JobsArgs {
     pub span: Span,
     /// The symbol file (`--names`).
     pub names: Option<String>,
+    /// The new file for a page that shows who had the processor, in place of the lines (`--timeline`).
+    pub timeline: Option<String>,
+    /// The values of `--mark`: places whose orders the page marks.
+    pub marks: Vec<String>,
 }
+
+/// The most values of `--mark`.
+pub const MOST_MARKS: usize = 8;
 
 /// Which states of a run `sample` prints.
 #[derive(Debug, Drop)]

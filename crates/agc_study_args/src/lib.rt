@@ -15,8 +15,8 @@ mod words_apart;
 
 pub use args::{
     Args, CheckArgs, CompareArgs, ConvertArgs, DumpArgs, FilmArgs, JobsArgs, ListArgs, ListStyle,
-    MOST_DUMPS, MergeArgs, NAME, ObservedArgs, PatchArgs, ProfileArgs, RepairArgs, RunOptions,
-    SampleArgs, SampleTimes, SumsArgs, TraceArgs, WeaveArgs, WordsArgs,
+    MOST_DUMPS, MOST_MARKS, MergeArgs, NAME, ObservedArgs, PatchArgs, ProfileArgs, RepairArgs,
+    RunOptions, SampleArgs, SampleTimes, SumsArgs, TraceArgs, WeaveArgs, WordsArgs,
 };
 pub use conversion::{ConvertedRope, convert_rope, read_dump};
 pub use laws::{a_listed_operand_is_addressed, a_run_stops_at_the_resolved_location};

@@ -184,7 +184,9 @@ impl<'a> Subcommands<'a> {
             .cycle_option("to", LAST_PRINTED)
             .names_option(
                 "Show names of jobs and tasks from this file: a line for each, PLACE NAME",
-            );
+            )
+            .timeline_option()
+            .mark_option();
         self.with(
             "jobs",
             "Runs a rope and a script, and prints each change of the Executive's tables.",
@@ -628,6 +630,25 @@ impl<'a> ArgList<'a> {
             "N",
             "Print only the last N of these lines, at the end of the run: decimal, from 0",
         )
+    }
+
+    fn timeline_option(self) -> ArgList<'a> {
+        self.option(
+            "timeline",
+            "NEW",
+            "Write a web page to this new file that shows who had the processor, and print nothing",
+        )
+    }
+
+    fn mark_option(self) -> ArgList<'a> {
+        let arg = repeated(
+            self.alloc,
+            "mark",
+            "PLACES",
+            "With --timeline, mark orders here: octal 4100, 05,2071, E3,1400 or 4100-4177, or names; repeatable",
+        )
+        .requires_arg("timeline");
+        self.with_tied(arg)
     }
 
     fn write_names_option(self) -> ArgList<'a> {

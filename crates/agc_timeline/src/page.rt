@@ -1,8 +1,13 @@
-//! The page of a film, without the runs in it: its layout, its scripts, and the Executive's tables beside each DSKY.
+//! The pages of a film and of a timeline, without the runs in them: layout, scripts, and the Executive's tables beside each
+//! DSKY of a film.
 mod head;
+mod jobs_head;
+mod jobs_script;
 mod script;
 mod tables;
 
 pub use head::HEAD;
+pub use jobs_head::JOBS_HEAD;
+pub use jobs_script::JOBS_TAIL;
 pub use script::TAIL;
 pub use tables::{TABLES, push_tail};

@@ -173,7 +173,7 @@ fn push_recording_end(text: &mut String, recording: &Recording) -> Result<(), Al
 }
 
 /// Adds an end: the stop, or that the run continues.
-fn push_end(text: &mut String, cycle: u64, stop: Option<Stop>) -> Result<(), AllocError>
+pub(crate) fn push_end(text: &mut String, cycle: u64, stop: Option<Stop>) -> Result<(), AllocError>
     ensures { OnOk result (string_bytes text.new ≡ string_bytes text.old ++ end_text cycle stop) }
 {
     match stop {

@@ -19,6 +19,18 @@ pub(crate) fn push_title(text: &mut String, files: &RunFiles, limit: u64) -> Res
     writeln!(text, "\nlimit {limit}")
 }
 
+/// Adds lines that have names in them: line feeds as they are, any other byte as in a name.
+pub(crate) fn push_lines_of_names(text: &mut String, bytes: &[u8]) -> Result<(), AllocError> {
+    for byte in bytes {
+        if *byte == b'\n' {
+            text.push_str("\n")?;
+        } else {
+            push_byte(text, *byte)?;
+        }
+    }
+    Ok(())
+}
+
 /// Adds the bytes of a name: printable ASCII except `<` and the backslash as it is, and any other byte as `\` and
 /// three octal digits.
 #[tactic(auto, unfolding(crate::specs::Title::name_text))]

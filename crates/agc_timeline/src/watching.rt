@@ -39,7 +39,7 @@ pub fn write_changes<W: Write, P: Progress>(
 }
 
 /// Runs a machine to the first cycle of a span, or to its stop if that comes first.
-fn go_to_first<P: Progress>(machine: &mut Machine, span: Span, progress: &mut P)
+pub(crate) fn go_to_first<P: Progress>(machine: &mut Machine, span: Span, progress: &mut P)
     ensures { (spec : WatchSpec) → sights_in span spec (states_of machine.new)
         ≡ sights_in span spec (states_of machine.old) }
 {
