@@ -5,7 +5,7 @@ pub const JOBS_HEAD: &str = "<!doctype html>
 <html lang='en'>
 <head>
 <meta charset='utf-8'>
-<meta http-equiv='Content-Security-Policy' content=\"default-src 'none'; script-src 'sha256-vbQsusjcWuzunGDrc0k+HzTbHBpg7Nokp4Xm//s06Jw='; style-src 'sha256-PC46dA/q5cEd30yvcUzecjCxXxDKCNbMeMu9S+azKQg='\">
+<meta http-equiv='Content-Security-Policy' content=\"default-src 'none'; script-src 'sha256-DeyqHfYB2sxFdTQW3jy/SYUea9t9c+cGWfeUHcrozO0='; style-src 'sha256-PC46dA/q5cEd30yvcUzecjCxXxDKCNbMeMu9S+azKQg='\">
 <meta name='viewport' content='width=device-width, initial-scale=1'>
 <title>Executive timeline</title>
 <style>
@@ -46,5 +46,5 @@ kbd { padding: 0 4px; border: 1px solid #6a6d68; border-radius: 3px; font: inher
 <h2>Jobs</h2>
 <table><thead><tr><th>Job<th>Started<th>Most at a time<th>Cycles in set 0<th>Share</tr></thead><tbody id='jobs-table'></tbody></table>
 </main>
-<p id='help'>The wheel, <kbd>+</kbd> and <kbd>-</kbd> zoom, dragging, <kbd>\u{2190}</kbd> and <kbd>\u{2192}</kbd> move, <kbd>Home</kbd> shows the whole run. The job in set 0 has the processor, unless an interrupt is served. Bars narrower than a pixel share one: the fainter, the less of it they take.</p>
+<p id='help'>The wheel, <kbd>+</kbd> and <kbd>-</kbd> zoom, dragging, <kbd>\u{2190}</kbd> and <kbd>\u{2192}</kbd> move, <kbd>Home</kbd> shows the whole run. The job in set 0 has the processor, unless an interrupt is served. Above, the number of core sets in use is red while none is left. Bars narrower than a pixel share one: the fainter, the less of it they take.</p>
 ";

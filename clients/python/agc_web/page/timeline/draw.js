@@ -18,11 +18,17 @@ const scale = () => (width - GUTTER) / (view.to - view.from);
 const xOf = (cycle) => GUTTER + (cycle - view.from) * scale();
 const cycleAt = (x) => view.from + (x - GUTTER) / scale();
 
+const colours = new Map();
+
 // Returns a colour for a name; names that begin alike differ, too.
 function colourOf(name, light) {
-  let sum = 7;
-  for (const sign of name) sum = (sum * 31 + sign.codePointAt(0)) % 360;
-  return `hsl(${(sum * 47) % 360} 55% ${light}%)`;
+  const key = `${light} ${name}`;
+  if (!colours.has(key)) {
+    let sum = 7;
+    for (const sign of name) sum = (sum * 31 + sign.codePointAt(0)) % 360;
+    colours.set(key, `hsl(${(sum * 47) % 360} 55% ${light}%)`);
+  }
+  return colours.get(key);
 }
 
 // Returns the colour of a bar of a row.
@@ -71,34 +77,35 @@ function drawLabel(text, left, right, y) {
   pen.restore();
 }
 
-// Draws the ticks of a row, of those in one pixel the first.
-function drawTicks({ row, y }, colour, deep) {
-  let free = 0;
+// Draws the ticks of a row from a height on, of those in one pixel the first, and the names that have room.
+function drawTicks({ row, y }, colour, from) {
+  pen.fillStyle = colour;
   for (let i = countUpTo(row.cycles, view.from - 1); i < row.ticks.length && row.cycles[i] <= view.to;) {
     const x = xOf(row.cycles[i]);
-    pen.fillStyle = colour;
-    pen.fillRect(x, deep ? 8 : y + 2, 1, deep ? y + ROW - 10 : ROW - 4);
-    const name = row.ticks[i].name;
-    if (x >= free && (i + 1 === row.ticks.length || xOf(row.cycles[i + 1]) - x > LABEL_FROM)) {
-      pen.fillText(name, x + 3, y + ROW / 2);
-      free = x + 6 + pen.measureText(name).width;
-    }
-    i = Math.max(i + 1, countUpTo(row.cycles, cycleAt(Math.floor(x) + 1) - 1e-6));
+    const next = Math.max(i + 1, countUpTo(row.cycles, cycleAt(Math.floor(x) + 1) - 1e-6));
+    const room = (next < row.ticks.length ? xOf(row.cycles[next]) : width) - x - 6;
+    pen.fillRect(x, from, 1, y + ROW - 2 - from);
+    if (next === i + 1 && room > LABEL_FROM && pen.measureText(row.ticks[i].name).width < room) pen.fillText(row.ticks[i].name, x + 3, y + ROW / 2);
+    i = next;
   }
 }
 
-// Draws how many core sets are in use: in each pixel the most.
+// Draws how many core sets are in use: in each pixel the most; and where all are.
 function drawUsed() {
   const { cycles, counts } = executive.used;
+  const full = [];
+  pen.fillStyle = COLOURS.used;
   const unit = GRAPH / Math.max(1, sets.length);
   for (let x = GUTTER; x < width; x += 1) {
     let i = countUpTo(cycles, cycleAt(x)) - 1;
     let most = i < 0 ? 0 : counts[i];
     const to = cycleAt(x + 1);
     for (i += 1; i < cycles.length && cycles[i] < to; i += 1) most = Math.max(most, counts[i]);
-    pen.fillStyle = most === sets.length && most > 0 ? COLOURS.full : COLOURS.used;
+    if (most === sets.length && most > 0) full.push(x);
     pen.fillRect(x, 8 + GRAPH - most * unit, 1, most * unit);
   }
+  pen.fillStyle = COLOURS.full;
+  for (const x of full) pen.fillRect(x - 1, 8, 3, GRAPH);
 }
 
 // Draws the share of stolen cycles, in the height of the band.
@@ -152,13 +159,13 @@ function draw() {
   pen.font = '11px ui-monospace, monospace';
   pen.textBaseline = 'middle';
   drawAxis();
-  drawUsed();
   let rectangles = 0;
   for (const lane of lanes) {
-    if (lane.row === tasks) drawTicks(lane, COLOURS.task, false);
-    else if (lane.row === marks) drawTicks(lane, COLOURS.mark, true);
+    if (lane.row === tasks) drawTicks(lane, COLOURS.task, lane.y + 2);
+    else if (lane.row === marks) drawTicks(lane, COLOURS.mark, 8);
     else rectangles += drawBars(lane);
   }
+  drawUsed();
   drawStolen();
   drawNames();
   const at = (cycle) => `${(cycle / CYCLES_A_SECOND).toFixed(3)} s`;

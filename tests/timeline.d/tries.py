@@ -1,0 +1,284 @@
+"""Tries the page of `agc-study jobs --timeline` on the flight of the alarm 1202.
+
+    tries.py FOLDER BROWSER
+
+The folder has the script of the flight, `with`. What the page's data and bars are to be is read from `jobs` and `trace`; how
+many jobs there are at the alarms is in examples/descent/alarm/README.md.
+"""
+import os
+import random
+import re
+import subprocess
+import sys
+import tempfile
+from collections import Counter
+
+from browser import Browser
+from judge import STUDY, TOP, attempt, check, depends_on_time, finish, judge
+from reading import SLICE, Reading
+
+FOLDER, PROGRAM = sys.argv[1:]
+EXAMPLE = os.path.join(TOP, "examples", "descent")
+FILES = [os.path.join(EXAMPLE, "rope"), os.path.join(FOLDER, "with")]
+FIRST, LAST = 4960000, 5770000
+PART = ["--limit", "6400000", "--from", str(FIRST), "--to", str(LAST)]
+WATCH, NAMES = "0,200,10,0,340,0,350", os.path.join(EXAMPLE, "names")
+MARKS = ("BAILOUT", "READACCS")
+ALARM, AFTER = 5321926, 5753050  # the call that finds no core set, and a cycle at which five SERVICERs wait
+SECOND = 1024000 / 12
+AROUND = 400  # cycles without a change of a set around a cycle that is looked at
+FRAMES, LONGEST_FRAME = 20, 100  # drawings that are timed, and milliseconds of the processor for each
+PAGE = os.path.join(FOLDER, "timeline.html")
+OPTIONS = [*FILES, *PART, "--watch", WATCH, "--names", NAMES]
+BLOCK = re.compile('(<script type="text/plain" id="jobs">\n)(.*?)(</script>)', re.DOTALL)
+# The bars of the sets that the page has: the set, from, to, the job, state, priority and the two places.
+BARS = """sets.flatMap(({ bars }, set) => bars.map((bar) => [set, bar.from, bar.to, bar.job.name, bar.state, bar.priority,
+    [bar.place.loc, bar.place.bankset], [bar.then.loc, bar.then.bankset]]))"""
+
+
+def made(page, *more):
+    """Makes the page. Returns what the program printed, and its status."""
+    words = [STUDY, "jobs", *OPTIONS, *(word for mark in MARKS for word in ("--mark", mark)), "--timeline", page, *more]
+    done = subprocess.run(words, capture_output=True, text=True, check=False)
+    return done.returncode, done.stdout, done.stderr
+
+
+def text_of(page):
+    with open(page, encoding="utf-8") as file:
+        return file.read()
+
+
+def data_of(page):
+    return BLOCK.search(text_of(page))[2].splitlines()
+
+
+def with_data(name, lines):
+    """Writes the page with other data."""
+    path = os.path.join(FOLDER, name)
+    with open(path, "w", encoding="utf-8") as file:
+        file.write(BLOCK.sub(lambda found: found[1] + "\n".join(lines) + "\n" + found[3], text_of(PAGE)))
+    return path
+
+
+def opened(page, hash_text=""):
+    browser.open(page, hash_text)
+    settle()
+
+
+def settle():
+    """Waits for the next drawing."""
+    browser.value("new Promise((done) => requestAnimationFrame(() => requestAnimationFrame(() => done(0))))")
+
+
+def view():
+    return [float(browser.value(f"document.body.dataset.{name}")) for name in ("from", "to")]
+
+
+def x_of(cycle):
+    """The place of a cycle in the window."""
+    return browser.value(f"find('chart').getBoundingClientRect().left + xOf({cycle})")
+
+
+def y_of(row):
+    """The middle of a row, or of the band of the stolen cycles, in the window."""
+    middle = "bandTop + BAND / 2" if row == "stolen" else f"lanes.find((lane) => lane.row === {row}).y + ROW / 2"
+    return browser.value(f"find('chart').getBoundingClientRect().top + {middle}")
+
+
+def pointed(cycle, row):
+    """What the page says of this place in a row."""
+    browser.mouse("mouseMoved", x_of(cycle), y_of(row))
+    return browser.value("find('about').textContent")
+
+
+def try_file():
+    if os.path.exists(PAGE):
+        os.unlink(PAGE)
+    status, out, err = made(PAGE)
+    judge("the page is made", (0, "", ""), (status, out, err))
+    before = text_of(PAGE)
+    status, out, err = made(PAGE, "--mark", "LRTASK")
+    judge("an existing file is kept", (2, "", f"error: invalid value '{PAGE}' for '--timeline <NEW>': the file exists"), (status, out, err.split("\n")[0]))
+    check("an existing file is as it was", before == text_of(PAGE))
+
+
+def try_data():
+    lines = data_of(PAGE)
+    judge("the lines of the tables", reading.jobs, [line for line in lines if re.match(r"\d+ (SET|LST)", line)])
+    wanted = [f"{cycle} RUPT {name}" for cycle, _, name in reading.services] + [f"{end} RESUME" for _, end, _ in reading.services if end]
+    judge("the interrupts", sorted(wanted), sorted(line for line in lines if re.search(" (RUPT|RESUME)", line)))
+    marks = [f"{line.split()[0]} MARK {number}" for number, mark in enumerate(MARKS) for line in reading.at(mark)]
+    judge("the marks", sorted(marks), sorted(line for line in lines if " MARK " in line))
+    found = {int(line.split()[0]) // SLICE: int(line.split()[2]) for line in lines if " STOLEN " in line}
+    judge("the stolen cycles", reading.stolen, found)
+    judge("the end", f"to {LAST}", lines[-1])
+
+
+def try_bars():
+    opened(PAGE)
+    judge("no error of the page", [], browser.errors())
+    bars = browser.value(BARS)
+    chance = random.Random(7)
+    cycles = sorted(cycle for cycle in chance.sample(range(FIRST + AROUND, LAST), 500) if reading.is_quiet(cycle, AROUND))
+    check(f"{len(cycles)} cycles to look at", len(cycles) > 150)
+    named = reading.jobs_at(cycles)
+    for cycle, jobs in zip(cycles, named):
+        there = {bar[0]: bar for bar in bars if bar[1] <= cycle < bar[2]}
+        judge(f"the sets in use at {cycle}", {number for number in range(8) if reading.held(number, cycle)[0] != "FREE"}, set(there))
+        for number, bar in there.items():
+            state, priority, _, loc, _, bankset = reading.held(number, cycle)[:6]
+            judge(f"set {number} at {cycle}", [state, priority, True], [bar[4], bar[5], [loc, bankset] in bar[6:]])
+            # A job of before the part has the name of the place where it goes on.
+            if jobs.get(number):
+                judge(f"the job in set {number} at {cycle}", jobs[number], bar[3])
+    judge("idle", [reading.held(0, cycle)[0] != "READY" for cycle in cycles], browser.value(f"{cycles}.map((cycle) => idle.at(cycle) !== null)"))
+    found = browser.value("services.bars.map(({ from, to, name }) => [from, to, name])")
+    judge("the bars of interrupts", [[begun, end or LAST, name] for begun, end, name in reading.services], found)
+
+
+def try_tasks():
+    opened(PAGE)
+    calls = browser.value("tasks.ticks.map(({ cycle, name }) => [cycle, name])")
+    judge("the tasks that T3RUPT calls", [name for _, name in reading.calls], [name for _, name in calls if name != "TASKOVER"])
+    tasks = [cycle for cycle, name in calls if name != "TASKOVER"]
+    check("each call is where its order is", all(0 <= wanted - cycle < 20 for (wanted, _), cycle in zip(reading.calls, tasks)))
+
+
+def jobs_in_use(cycle):
+    """The jobs in the sets at a cycle, by name."""
+    return dict(Counter(bar[3] for bar in browser.value(BARS) if bar[1] <= cycle < bar[2]))
+
+
+def try_alarm():
+    opened(PAGE)
+    judge("the jobs at the alarm 1202", {"SERVICER": 3, "RANGEJOB": 4, "DISPJOB": 1}, jobs_in_use(ALARM))
+    judge("the jobs before the alarm 1201", {"SERVICER": 5}, jobs_in_use(AFTER))
+    counts = browser.value(f"[{ALARM}, {AFTER}].map((cycle) => executive.used.counts[countUpTo(executive.used.cycles, cycle) - 1])")
+    judge("the sets in use at both", [8, 5], counts)
+    judge("no cell is left at the first alone", 1, browser.value("executive.used.counts.filter((count) => count === 8).length"))
+    started = [bar[1] for bar in browser.value(BARS) if bar[3] == "SERVICER" and bar[5] == "20" and bar[0] > 0]
+    begun = [cycle_of(line) for line in reading.at("READACCS")]
+    found = [any(0 < cycle - at < 200 for cycle in started) for at in begun]
+    refused = [cycle_of(line) for line in reading.at("BAILOUT")]
+    judge("each READACCS that finds room starts a SERVICER", [not any(0 < cycle - at < 200 for cycle in refused) for at in begun], found)
+    judge("one alone finds none: 1201", 1, found.count(False))
+    most = browser.value("[...find('jobs-table').rows].find((row) => row.cells[0].textContent === 'SERVICER').cells[2].textContent")
+    judge("the most SERVICERs at a time", "5", most)
+    red = f"""(() => {{ const [r, g] = pen.getImageData(Math.round(xOf({ALARM + 100}) * devicePixelRatio), 12 * devicePixelRatio, 1, 1).data;
+        return r > 200 && g < 150; }})()"""
+    opened(PAGE, f"from={ALARM - 20000}&to={ALARM + 20000}")
+    check("no core set left is red", browser.value(red))
+
+
+def cycle_of(line):
+    return int(line.split(" ", 1)[0])
+
+
+def try_pointing():
+    opened(PAGE, f"from={ALARM - 100000}&to={ALARM + 5000}")
+    waiting = next(bar for bar in browser.value(BARS) if bar[0] == 4 and bar[1] <= ALARM - 20000 < bar[2])
+    begun, end = waiting[1:3]
+    wanted = rf"SET 4: SERVICER \(number \d+ of this name\), priority 14, ready\nLOC 02067 60103 PRLAND \+11.*\nfrom cycles {begun} to {end}: {end - begun} cycles, {(end - begun) / SECOND * 1000:.3f} ms"
+    found = pointed(ALARM - 20000, "sets[4]")
+    check(f"pointing at a waiting job says {found!r}", re.fullmatch(wanted, found))
+    service = next(service for service in reading.services if service[0] > ALARM - 3000)
+    opened(PAGE, f"from={service[0] - 100}&to={service[0] + 900}")
+    found = pointed(service[0] + 20, "services")
+    wanted = f"{service[2]}: an interrupt\nfrom cycles {service[0]} to {service[1]}: "
+    check(f"pointing at an interrupt says {found!r}", found.startswith(wanted))
+    opened(PAGE, f"from={ALARM - 500}&to={ALARM + 500}")
+    found = pointed(ALARM, "marks")
+    check(f"pointing at a mark says {found!r}", found.startswith(f"BAILOUT: a marked order\nat cycle {ALARM},"))
+    found = pointed(ALARM + 100, "stolen")
+    share = reading.stolen[(ALARM + 100) // SLICE] / SLICE
+    check(f"pointing at the band says {found!r}", f"counters take {100 * share:.1f} of 100 cycles" in found)
+
+
+def try_moving():
+    opened(PAGE)
+    judge("the whole part", [FIRST, LAST], view())
+    browser.value("document.activeElement.blur()")
+    browser.press("+")
+    settle()
+    begun, end = view()
+    judge("+ shows half", (LAST - FIRST) / 2, end - begun)
+    browser.press("ArrowRight")
+    settle()
+    judge("the arrow moves by a quarter", [begun + (end - begun) / 4, end + (end - begun) / 4], view())
+    x, y = x_of(ALARM), y_of("sets[2]")
+    browser.ask("Input.dispatchMouseEvent", type="mouseWheel", x=x, y=y, deltaX=0, deltaY=-400)
+    settle()
+    begun, end = view()
+    check("the wheel zooms", abs((end - begun) / (LAST - FIRST) * 2 - 1.0015 ** -400) < 0.001)
+    check("the wheel keeps the cycle where it is", abs(x_of(ALARM) - x) < 1)
+    browser.mouse("mousePressed", x, y)
+    browser.mouse("mouseMoved", x - 120, y)
+    browser.mouse("mouseReleased", x - 120, y)
+    settle()
+    check("dragging moves", abs(x_of(ALARM) - (x - 120)) < 1)
+    browser.press("-")
+    settle()
+    check("- shows twice as much", view()[1] - view()[0] > 1.9 * (end - begun))
+    browser.press("Home")
+    settle()
+    judge("Home shows the whole part", [FIRST, LAST], view())
+    browser.value("find('in').click()")
+    settle()
+    check("a button zooms", view()[1] - view()[0] < LAST - FIRST)
+
+
+def try_hosts():
+    opened(PAGE)
+    judge("nothing is loaded", 0, browser.value("performance.getEntriesByType('resource').length"))
+    policy = browser.value("document.querySelector('meta[http-equiv]').content")
+    check(f"the policy {policy}", re.fullmatch("default-src 'none'; script-src 'sha256-[^' ]+'; style-src 'sha256-[^' ]+'", policy))
+    blocked = """new Promise((done) => {
+        document.addEventListener('securitypolicyviolation', (event) => done(event.effectiveDirective));
+        setTimeout(() => done('allowed'), 20000);
+        document.body.append(Object.assign(new Image(), { src: 'https://example.org/image.png' })); })"""
+    judge("the policy blocks an image", "img-src", browser.value(blocked))
+
+
+def script_seconds():
+    """The seconds of the processor that scripts of the page have taken."""
+    return {each["name"]: each["value"] for each in browser.ask("Performance.getMetrics")["metrics"]}["ScriptDuration"]
+
+
+def try_many_bars():
+    """100,000 bars: half of them jobs that come and go, half interrupts."""
+    head = [line for line in data_of(PAGE) if not line[0].isdigit() and not line.startswith("to ")]
+    lines = [f"{FIRST} SET {number} FREE" for number in range(8)]
+    for k in range(50000):
+        at = FIRST + 1000 * (k + 1)
+        lines += [f"{at} RUPT T4RUPT", f"{at + 91} RESUME", f"{at + 200} SET {k % 8} READY {k % 30 + 1:02o} LOC {2000 + k % 700} BANKSET 12003 JOB{k % 50}",
+                  f"{at + 700} SET {k % 8} FREE"]
+    page = with_data("many.html", [*head, *lines, f"to {FIRST + 50002000}"])
+    opened(page)
+    judge("no error with many bars", [], browser.errors())
+    judge("all bars are there", 100000, browser.value("sets.reduce((sum, { bars }) => sum + bars.length, services.bars.length)"))
+    browser.ask("Performance.enable", timeDomain="threadTicks")
+    for length in (50002000, 5000000, 200000):
+        before = script_seconds()
+        browser.value(f"for (let i = 0; i < {FRAMES}; i += 1) {{ show(run.from + i * {length} / 90, {length}); draw(); }}")
+        took = (script_seconds() - before) / FRAMES * 1000
+        check(f"{length} cycles of 100,000 bars are drawn in {took} ms of the processor", 0 < took < LONGEST_FRAME)
+    rectangles = int(browser.value("show(run.from, 50002000), draw(), document.body.dataset.rectangles"))
+    check(f"bars narrower than a pixel are merged: {rectangles}", rectangles < 20000)
+
+
+def try_cut_page():
+    page = with_data("cut.html", data_of(PAGE)[:-1])
+    opened(page)
+    check("a page that is cut off says so", "cut off" in browser.value("find('trouble').textContent"))
+
+
+depends_on_time()
+attempt(try_file)
+reading = Reading(FILES, PART, WATCH, NAMES)
+attempt(try_data)
+with tempfile.TemporaryDirectory() as home:
+    browser = Browser(PROGRAM, home, 1400, 900)
+    for group in (try_bars, try_tasks, try_alarm, try_pointing, try_moving, try_hosts, try_many_bars, try_cut_page):
+        attempt(group)
+    browser.close()
+finish()
