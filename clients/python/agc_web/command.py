@@ -53,7 +53,7 @@ def serve(
     file = ScriptFile(save) if save is not None else None
     with Ending() as ending:
         session = Session(console, instruments, watch)
-        films = Films(study(), console, form)
+        films = Films(study(), console, form, names, watch)
         ending.kill = lambda: _kill(console, films)
         server = None
         try:

@@ -1,5 +1,5 @@
-"""Films of a session: `agc-study film` of its script, and of the rope as the session began with it, with what its instruments
-showed beside the DSKY."""
+"""Films and timelines of a session: `agc-study film`, and `jobs --timeline`, of its script and of the rope as the session began
+with it. A film has what the instruments showed beside the DSKY."""
 
 import json
 import os
@@ -21,27 +21,48 @@ INCLUDE = re.compile(r"^\{\{([a-z/.-]+)\}\}\n", re.MULTILINE)
 END = b"</body>"
 PATIENCE = 600  # seconds that a film may take
 LEAVING = 0.5  # seconds in which a film that is broken off removes its files
+TIMELINE = "timeline.html"
 
 
 class Films:
-    """Makes films, one at a time."""
+    """Makes films and timelines, one at a time."""
 
-    def __init__(self, program: Optional[str], console: Console, form: Optional[str]) -> None:
-        """`program` is agc-study, if there is one."""
+    def __init__(
+        self, program: Optional[str], console: Console, form: Optional[str], names: Optional[str] = None, watch: Optional[str] = None
+    ) -> None:
+        """`program` is agc-study, if there is one. `names` is the file of names, `watch` says where the Executive's tables are."""
         self._program = program
         self._console = console
         self._form = form
+        self._names = names
+        self._watch = watch
         self._one_at_a_time = threading.Lock()
         self._process: Optional["subprocess.Popen[bytes]"] = None
         self._closing = False
 
     def make(self, repeat: Repeat, views: Sequence[View] = ()) -> bytes:
         """Returns the page of a film with these views. Raises `Unable` if there is none."""
+        return with_views(self._page(repeat, "film"), views)
+
+    def timeline(self, repeat: Repeat) -> bytes:
+        """Returns the page of a timeline of the Executive. Raises `Unable` if there is none."""
+        if self._watch is None:
+            raise Unable("a timeline needs to know where the Executive's tables are: --watch SPEC, or a file ROPE.watch")
+        words = ["--watch", self._watch, "--timeline", TIMELINE]
+        words += ["--names", os.path.abspath(self._names)] if self._names else []
+        return self._page(repeat, "jobs", words)
+
+    def _page(self, repeat: Repeat, command: str, words: Sequence[str] = ()) -> bytes:
+        """Returns the page that a command of agc-study makes."""
         if self._program is None:
             raise Unable("films need agc-study beside agc-console, or on the path")
         try:
             with self._one_at_a_time, tempfile.TemporaryDirectory() as folder:
-                return with_views(self._made(self._program, folder, repeat), views)
+                printed = self._made([self._program, command], folder, repeat, words)
+                if TIMELINE not in words:
+                    return printed
+                with open(os.path.join(folder, TIMELINE), "rb") as file:
+                    return file.read()
         except OSError as error:
             raise Unable(f"agc-study made no film: {error.strerror or error}") from None
 
@@ -59,11 +80,11 @@ class Films:
         if self._one_at_a_time.acquire(timeout=LEAVING):
             self._one_at_a_time.release()
 
-    def _made(self, program: str, folder: str, repeat: Repeat) -> bytes:
-        """Makes a film in a folder of its own."""
+    def _made(self, command: List[str], folder: str, repeat: Repeat, more: Sequence[str]) -> bytes:
+        """Makes a page in a folder of its own. Returns what the program printed."""
         with open(os.path.join(folder, "session.script"), "w", encoding="ascii") as file:
             file.write(repeat.script)
-        words = [program, "film", self._rope_in(folder), "session.script", "--limit", str(repeat.limit)]
+        words = [*command, self._rope_in(folder), "session.script", "--limit", str(repeat.limit), *more]
         words += ["--form", self._form] if self._form else []
         self._process = subprocess.Popen(
             words, cwd=folder, stdin=subprocess.DEVNULL, stdout=subprocess.PIPE, stderr=subprocess.PIPE, start_new_session=True

@@ -319,6 +319,8 @@ class Handler(BaseHTTPRequestHandler):
                        Content_Disposition='attachment; filename="session.script"')
         elif path == "/film":
             self._send_film()
+        elif path == "/timeline":
+            self._send_made(lambda: self.server.films.timeline(self.server.session.repeat()))
         elif path == "/source":
             self._send_json(self.server.source)
         elif path[1:] in NAMED.findall(_page()):
@@ -370,16 +372,20 @@ class Handler(BaseHTTPRequestHandler):
         self.wfile.flush()
 
     def _send_film(self) -> None:
-        """Sends a film of the session so far. Its page is separated from ours: it cannot reach this server."""
+        """Sends a film of the session so far."""
         repeat, views = self.server.session.repeat(), []
         with suppress(Unable):  # a machine that is busy has a film without them
             views = self.server.session.past_views()
+        self._send_made(lambda: self.server.films.make(repeat, views))
+
+    def _send_made(self, make: Callable[[], bytes]) -> None:
+        """Sends a page that agc-study makes. It is separated from ours: it cannot reach this server."""
         try:
-            film = self.server.films.make(repeat, views)
+            page = make()
         except Unable as unable:
             self._send(str(unable).encode(), "text/plain; charset=utf-8", HTTPStatus.CONFLICT)
             return
-        self._send(film, TYPES[".html"], Content_Security_Policy=FILM_POLICY)
+        self._send(page, TYPES[".html"], Content_Security_Policy=FILM_POLICY)
 
     # POST
 

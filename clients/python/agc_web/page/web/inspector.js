@@ -312,5 +312,6 @@ function buildInspector() {
   find('copy').addEventListener('click', copyScript);
   find('download').href = session.scriptAddress;
   find('film').href = session.filmAddress;
+  if (session.timelineAddress) find('timeline').href = session.timelineAddress;
   JSON.parse(sessionStorage.getItem('watched') || '[]').forEach(addWatch);
 }

@@ -49,6 +49,7 @@ const session = {
 
   scriptAddress: 'script',
   filmAddress: 'film',
+  timelineAddress: 'timeline',
 };
 
 // Posts a body; returns the status and the answer.

@@ -19,6 +19,7 @@ function showAbout(about) {
   document.body.classList.toggle('named', about.names.length > 0);
   find('names').replaceChildren(...about.names.map((each) => make('option', { value: each })));
   find('phones-button').hidden = !about.phones;
+  find('timeline').hidden = !about.watch || !session.timelineAddress; // agc.html has no agc-study that makes one
   setText(find('phones-address'), about.phones || '');
   keepNames(about);
   keepListing(about);
