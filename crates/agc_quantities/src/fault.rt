@@ -14,7 +14,7 @@ pub enum LineFault {
     TooManyFields,
     #[error("a name is 1 to 24 characters: a letter, then letters, digits, _, . and -")]
     BadName,
-    #[error("an earlier line has this name")]
+    #[error("an earlier line has this name or column")]
     NameTwice,
     #[error("unknown place")]
     UnknownPlace,

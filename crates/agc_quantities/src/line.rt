@@ -42,6 +42,13 @@ pub(crate) fn read_line<'a>(
     let name = read_name(fields.name, earlier)?;
     let cell = read_cell(names, fields.place)?;
     let kind = read_kind(fields.kind, fields.scale)?;
+    if kind.is_vector()
+        && earlier
+            .iter()
+            .any(|other| is_column(fields.name, other.name.as_bytes()))
+    {
+        return Err(LineFault::NameTwice);
+    }
     if cell % ERASABLE_BANK_SIZE + kind.size() > ERASABLE_BANK_SIZE {
         return Err(LineFault::PastBank);
     }
@@ -88,16 +95,29 @@ fn needed<'a>(cut: Option<(&'a [u8], &'a [u8])>) -> Result<(&'a [u8], &'a [u8]),
     }
 }
 
-/// Parses a name that no earlier line has.
+/// Parses a name that no earlier line has, and no column of an earlier vector.
 fn read_name<'a>(word: &'a [u8], earlier: &[Quantity]) -> Result<&'a str, LineFault> {
     if !is_name(word) {
         return Err(LineFault::BadName);
     }
-    if earlier.iter().any(|other| other.name.as_bytes() == word) {
+    if earlier.iter().any(|other| has_name(other, word)) {
         return Err(LineFault::NameTwice);
     }
     match str::from_utf8(word) {
         Ok(name) => Ok(name),
         Err(_) => Err(LineFault::BadName),
+    }
+}
+
+fn has_name(quantity: &Quantity, word: &[u8]) -> bool {
+    let name = quantity.name.as_bytes();
+    name == word || quantity.kind.is_vector() && is_column(name, word)
+}
+
+/// Returns whether a name is that of a column of a vector: the vector's, and `.x`, `.y` or `.z`.
+fn is_column(vector: &[u8], name: &[u8]) -> bool {
+    match name {
+        [start @ .., b'.', b'x' | b'y' | b'z'] => start == vector,
+        _ => false,
     }
 }

@@ -35,6 +35,10 @@ impl Kind {
         }
     }
 
+    pub(crate) fn is_vector(self) -> bool {
+        matches!(self, Kind::Vector(_))
+    }
+
     /// Returns the number of columns of a row.
     pub fn columns(self) -> usize
         ensures { result ≤ 3 }
