@@ -704,6 +704,8 @@ fn watching(rt: &(impl AllocGlobal + Abort), watch: &str) -> JobsArgs {
         watch: owned(rt, watch),
         span: Span { from: 10, to: 10 },
         names: None,
+        timeline: None,
+        marks: Vec::new(rt.alloc()),
     }
 }
 
