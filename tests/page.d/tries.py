@@ -5,8 +5,8 @@ the script that the page lets one download.
 """
 import base64
 import contextlib
-import hashlib
 import functools
+import hashlib
 import importlib.machinery
 import io
 import os

@@ -2,7 +2,7 @@
 // The session behind the page of agc.html: a machine in a worker of this page. It takes the place of web/session.js, and has the
 // same calls; `weave`, `open`, `files` and `kept` are for the other files of this folder.
 
-const IS_OLD = !('WebAssembly' in window && 'DecompressionStream' in window); // what this browser has
+const IS_OLD = !('WebAssembly' in window && 'DecompressionStream' in window); // whether this browser lacks what the page needs
 const TOO_OLD = 'This browser cannot run the machine: it has no WebAssembly or no DecompressionStream. Chromium 103, Firefox 113 and Safari 16.4 have both.';
 
 const bytesOf = (base64) => Uint8Array.from(atob(base64), (sign) => sign.charCodeAt(0));

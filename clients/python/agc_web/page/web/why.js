@@ -92,6 +92,7 @@ async function explainAlarm(cell, search) {
   why.pending = { code, cycle: order };
   if (await ask('go', { cycle: order })) showTab('why'); else why.pending = null;
   followWhy();
+  bringIntoView(find('why-says')); // it was hidden if the news of the cycle came before the answer
 }
 
 async function alarmCode(cell) {
