@@ -17,7 +17,7 @@ call says one command and whose answer it reads to its last line. Cycles are mac
 channels and addresses are Python's integers here (0o54171); a place may be the console's own text, too ("E3,1400").
 What the console refuses is a `Refused`, and what the process itself says as it ends an `Ended`; a call that is broken
 off, as by a time-out, ends the console. `script` still returns the session's script after that. A loop with many events is
-faster after `defer`: they then go to the console with the next other command. A console is to be used by one thread at a
+faster after `defer`: they then go to the console with the next other command, and so do the runs of `go_later`. A console is to be used by one thread at a
 time; only `kill` is for any. Start `agc-console --help` once before, so that it is built.
 """
 
@@ -68,7 +68,7 @@ CLOSING = 5
 """The seconds that a console may take to end before it is killed."""
 
 MOST_WAITING = 1000
-"""The events that may wait, after `defer`: their commands and answers fit into a pipe."""
+"""The commands that may wait, after `defer`: they fit into a pipe."""
 
 SURE_EVENTS = 60_000
 """Up to this many events, a session surely has room. Later ones are sent one by one, because each may be refused."""
@@ -220,6 +220,8 @@ class Console:
         self._is_deferring = False
         self._room = 0  # for events that may wait
         self._waiting: List[str] = []
+        self.passed: List[Write] = []
+        """The writes of the runs that `go_later` put off, when they have come. The caller clears it."""
         self.on_answer: Optional[Callable[[str, Answer], None]] = None
         """Called with each command and its answer, if set; not for refused commands."""
         self._quiet = False
@@ -399,32 +401,45 @@ class Console:
                 self.on_answer(command, answer)
 
     def _take_waiting(self, commands: List[str]) -> Optional[Refused]:
-        """Reads the answers to events that have waited. Returns why the first of the refused ones was refused."""
+        """Reads the answers to commands that have waited. Returns why the first of the refused ones was refused."""
         first = None
-        injected, on_answer = self._injected, self.on_answer
+        injected, on_answer, ready = self._injected, self.on_answer, self._lines
         for command in commands:
-            try:
-                self._answer()
-            except Refused as refused:
-                first = first or refused
-                continue
-            injected.append((self._cycle, command))
+            lines: List[str] = []
+            if ready and ready[0].startswith("at "):  # the most frequent answer
+                self._cycle, self._stop = int(ready.popleft()[3:]), None
+            else:
+                try:
+                    lines = self._answer()
+                except Refused as refused:
+                    first = first or refused
+                    continue
+            if not command.startswith("go "):
+                injected.append((self._cycle, command))
+            elif lines:
+                self.passed += _writes(lines)
             if on_answer is not None:
-                on_answer(command, Answer([], self._cycle, self._stop))
+                on_answer(command, Answer(lines, self._cycle, self._stop))
         return first
 
     def _send_waiting(self) -> None:
-        """Sends the events that wait."""
+        """Sends the commands that wait."""
         if self._waiting:
-            self.say(self._waiting.pop())
+            self.passed += _writes(self.say(self._waiting.pop()).lines)
 
     def _inject(self, command: str) -> None:
         """Injects an event: with the next command, if events are deferred and there is surely room for this one."""
-        if self._room > 0 and self._stop is None and command.isascii() and "\n" not in command:
-            self._room -= 1
-            self._waiting.append(command)
-        else:
-            self.say(command)
+        if command.isascii() and "\n" not in command and self._waits(command):
+            return
+        self.say(command)
+
+    def _waits(self, command: str) -> bool:
+        """Whether a command waits for the next one, because events are deferred and there is surely room for it."""
+        if self._room <= 0 or self._stop is not None:
+            return False
+        self._room -= 1
+        self._waiting.append(command)
+        return True
 
     def _count_room(self) -> None:
         """Counts the events that may wait: as long as they are deferred, and the session surely has room."""
@@ -489,6 +504,13 @@ class Console:
     def go_to(self, cycle: int) -> List[Write]:
         """On until a cycle is reached or passed: the last order, interrupt or step may end past it."""
         return self._run(f"go to {cycle}")
+
+    def go_later(self, cycle: int) -> None:
+        """As `go_to`; but after `defer` the run waits with the events for the next other call, and its writes are then in
+        `passed`. So several steps, with the events between them, cost one exchange."""
+        command = f"go to {cycle}"
+        if not self._waits(command):
+            self.passed += self._run(command)
 
     def step(self, boundaries: int = 1) -> List[str]:
         """So many boundaries, each an order, an event, a timer's step or an interrupt. Returns their lines, as
@@ -622,8 +644,8 @@ class Console:
     # what happens to the machine, now
 
     def defer(self, on: bool = True) -> None:
-        """From now on the events of the methods below wait for the next other call, and go to the console with its command:
-        many events cost one exchange. `defer(False)` ends that. What is injected is the same. But an event that is refused
+        """From now on the events of the methods below, and `go_later`, wait for the next other call, and go to the console with
+        its command: many events cost one exchange. `defer(False)` ends that. What is injected is the same. But an event that is refused
         raises `Refused` from that other call, whose command has happened all the same."""
         if not isinstance(on, bool):
             raise TypeError("deferred or not: True or False")

@@ -144,6 +144,31 @@ def try_deferred():
             agc.pulse(0o37, "pinc")
         agc.key("4")
     judge("a close sends them", (2501, "2500 key 4"), (len(agc.script().splitlines()), agc.script().splitlines()[-1]))
+    with example("timers", script=script_of("timers")) as agc:
+        wanted = [*agc.go_to(700), *agc.go_to(1400)]
+        agc.raise_interrupt(4)
+        wanted, last, told = wanted + agc.go_to(2000), agc.go_to(9000), agc.script()
+    with example("timers", script=script_of("timers")) as agc:
+        agc.go_later(700)
+        judge("a run that is not deferred", (wanted[:1], 700), (agc.passed, agc.cycle))
+        agc.passed.clear()
+        agc.back(0)
+        said = []
+        agc.on_answer = lambda command, answer: said.append(command)
+        agc.defer()
+        agc.go_later(700)
+        agc.go_later(1400)
+        agc.raise_interrupt(4)
+        agc.go_later(2000)
+        judge("runs wait, too", ([], []), (said, agc.passed))
+        judge("the next one goes on from there", last, agc.go_to(9000))
+        judge("their writes", wanted, agc.passed)
+        judge("they are done in order", ["go to 700", "go to 1400", "raise 4", "go to 2000", "go to 9000"], said)
+        judge("and the script is the same", told, agc.script())
+        agc.passed.clear()
+        agc.back(0)
+        agc.go_later(700)
+        judge("a look sends a run", (700, wanted[:1]), (agc.cycle, agc.passed))
     with example("division") as agc:
         agc.defer()
         agc.go(100)
