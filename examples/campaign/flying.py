@@ -11,7 +11,7 @@ import subprocess
 
 from agc import Console, Refused
 from craft import (
-    ASCENT_FUEL, abort_has_ended, begins, craft_of, fault_at, finite, fly, key_at, refusal,
+    ASCENT_FUEL, JETS, LAMPS, RADAR, STAGING, THROTTLE, abort_has_ended, begins, craft_of, fault_at, finite, fly, key_at, refusal,
 )
 
 INPUTS = [
@@ -33,6 +33,12 @@ CORE_SETS = 7  # the Executive has these besides set 0
 CORE_SET_WORDS = 12
 TAKEN = 0o76777  # a priority that is not that of a free set
 MOST_RESTARTS = 4000  # in a flight: a script has room for 65,536 events
+
+COMMANDS = (JETS, THROTTLE, RADAR)  # the channels that command the craft at regular times,
+HEARD = (*COMMANDS, LAMPS, STAGING)  # and all that it takes
+AUTOPILOT, GUIDANCE = 10, 100  # steps from one pass of the program's autopilot or guidance to the next
+SETTLED = 300  # steps from the start, or a surprise, until both have their times
+TRIES = 4  # flights ahead, before one step by step
 
 
 def number(text):
@@ -155,11 +161,72 @@ class Witness(Console):
             self.coming = [due for due in self.coming if due > self.cycle]
         return writes + super().go_to(cycle)
 
+    def settle(self, refused):
+        """Ends a flight, in which an event may have been refused."""
+
     def interrupted(self):
         """Returns the place of the order that the restart drops: the interrupted one, if a service has called it."""
         where = self.where()
         place = where.interrupted or where.order
         return place.name or place.place
+
+
+class Surprise(Exception):
+    """The program commanded the craft in a step in which nothing was expected; or, without a step, an event was refused."""
+
+    def __init__(self, step=None):
+        super().__init__()
+        self.step = step
+
+
+class Ahead(Witness):
+    """A console that takes several steps in one exchange, as long as no command to the craft is expected: one is, a period
+    after a write to the same channels. If one comes all the same, the craft has flown without it, and that is a Surprise."""
+
+    def __init__(self, craft, begins, *words, **options):
+        super().__init__(None, *words, **options)
+        self.craft = craft
+        self.begins = begins  # the steps from which on there may be commands at other times
+        self.step, self.settled = 0, SETTLED
+        self.written = set()  # the steps with a write to a channel of COMMANDS
+
+    def go_to(self, cycle):
+        step, written = self.step + 1, self.written
+        self.step = step
+        if step in self.begins:
+            self.settled = step + SETTLED
+        if step > self.settled and step - AUTOPILOT not in written and step - GUIDANCE not in written:
+            self.go_later(cycle)
+            writes = []
+        else:
+            writes = Console.go_to(self, cycle)
+        if self.passed:
+            self.check()
+        for write in writes:
+            if write.channel in COMMANDS:
+                written.add(step)
+        return writes
+
+    def check(self):
+        """Gives the craft the writes of the steps that were put off, which must not change it."""
+        craft = self.craft
+        commanded = craft.commanded()
+        for write in self.passed:
+            if write.channel not in HEARD:
+                continue
+            step = 1 + write.cycle * 3 // 2560  # or the next one, at its first cycle
+            craft.take(write)
+            if craft.commanded() != commanded:
+                raise Surprise(step)
+            if write.channel in COMMANDS:
+                self.written.add(step)
+        self.passed.clear()
+
+    def settle(self, refused):
+        """As the witness's, but a refused event came with others that should not have been sent."""
+        if refused:
+            raise Surprise from refused
+        self.check()
 
 
 class Track:
@@ -184,24 +251,41 @@ def end_of(agc, craft, refused):
 
 
 def flown(flight, rope, names, program, script):
-    """Flies, and returns the results as texts, and the script that repeats the flight. The files are paths."""
-    craft = craft_of(flight)
+    """Flies, and returns the results as texts, and the script that repeats the flight. The files are paths. Without restarts
+    it flies ahead: again after a surprise, which is expected then, and after some of them step by step."""
+    files = {"rope": rope, "script": script, "names": names, "program": program}
+    surprises = set()
+    for _ in range(TRIES if flight.restarts is None else 0):
+        craft = craft_of(flight)
+        try:
+            with Ahead(craft, surprises, **files) as agc:
+                return results_of(flight, craft, agc)
+        except Surprise as surprise:
+            if surprise.step is None:
+                break
+            surprises.add(surprise.step)
+    with Witness(flight.restarts, **files) as agc:
+        return results_of(flight, craft_of(flight), agc)
+
+
+def results_of(flight, craft, agc):
+    """Flies to the end, and returns what flown does."""
     keys = {**begins(flight)[2], **dict(flight.keys)}
     track, refused, seconds, at = Track(craft), None, 0.0, ("", "")
-    with Witness(flight.restarts, rope, script, names=names, program=program) as agc:
-        try:
-            for seconds, _ in fly(agc, craft, keys):
-                track.look(craft)
-                if agc.came:
-                    agc.came, at = False, (f"{craft.height:.0f}", agc.panel()["PROG"])
-        except Refused as error:
-            refused = error
-        text = agc.script()
-        alarms = [f"{code:05o}" for code in agc.cells("FAILREG", 3) if code]
-        results = [end_of(agc, craft, refused), agc.panel()["PROG"], " ".join(alarms), *touchdown_of(craft)]
-        results += [f"{craft.fuel():.1f}", f"{seconds:.2f}", str(agc.cycle), str(len(text.splitlines()))]
-        results += [hashlib.sha256(text.encode()).hexdigest()[:12], str(agc.count), *agc.last, *at, " ".join(track.found)]
-        return results, text
+    try:
+        for seconds, _ in fly(agc, craft, keys):
+            track.look(craft)
+            if agc.came:
+                agc.came, at = False, (f"{craft.height:.0f}", agc.panel()["PROG"])
+    except Refused as error:
+        refused = error
+    agc.settle(refused)
+    text = agc.script()
+    alarms = [f"{code:05o}" for code in agc.cells("FAILREG", 3) if code]
+    results = [end_of(agc, craft, refused), agc.panel()["PROG"], " ".join(alarms), *touchdown_of(craft)]
+    results += [f"{craft.fuel():.1f}", f"{seconds:.2f}", str(agc.cycle), str(len(text.splitlines()))]
+    results += [hashlib.sha256(text.encode()).hexdigest()[:12], str(agc.count), *agc.last, *at, " ".join(track.found)]
+    return results, text
 
 
 def touchdown_of(craft):

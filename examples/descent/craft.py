@@ -119,6 +119,10 @@ class Craft:
             self.engine = bool(write.value & ENGINE_ON)
             self.flying = self.flying or self.engine
 
+    def commanded(self):
+        """What the writes of the computer have set."""
+        return self.jets, self.command, self.wanted, self.engine, self.flying, self.staged, self.pulse
+
     def step(self):
         """Moves for a hundredth of a second. The craft is held until its engine is on for the first time."""
         self.seconds += STEP
