@@ -178,7 +178,8 @@ def try_pointing():
     opened(PAGE, f"from={ALARM - 100000}&to={ALARM + 5000}")
     waiting = next(bar for bar in browser.value(BARS) if bar[0] == 4 and bar[1] <= ALARM - 20000 < bar[2])
     begun, end = waiting[1:3]
-    wanted = rf"SET 4: SERVICER \(number \d+ of this name\), priority 14, ready\nLOC 02067 60103 PRLAND \+11.*\nfrom cycles {begun} to {end}: {end - begun} cycles, {(end - begun) / SECOND * 1000:.3f} ms"
+    facts = r"SET 4: SERVICER \(number \d+ of this name\), priority 14, ready\nLOC 02067 60103 PRLAND \+11.*\n"
+    wanted = facts + rf"from cycles {begun} to {end}: {end - begun} cycles, {(end - begun) / SECOND * 1000:.3f} ms"
     found = pointed(ALARM - 20000, "sets[4]")
     check(f"pointing at a waiting job says {found!r}", re.fullmatch(wanted, found))
     service = next(service for service in reading.services if service[0] > ALARM - 3000)

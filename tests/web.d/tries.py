@@ -39,6 +39,7 @@ import nouns
 import quantities
 import rooms
 import storms
+import timelines
 import times
 import views
 import whys
@@ -1548,6 +1549,7 @@ TRIES = (
     try_serve, try_gone, try_hangup, try_lander, try_late_view, try_names_and_pictures, try_stop, try_random, try_face,
     try_client, try_install, *ends.TRIES, *rooms.TRIES, *times.TRIES, *views.TRIES, *buttons.TRIES, *filmed.TRIES, *found.TRIES,
     *guides.TRIES, *whys.TRIES, *listens.TRIES, *listed.TRIES, *looks.TRIES, *quantities.TRIES, *nouns.TRIES, *storms.TRIES,
+    *timelines.TRIES,
 )
 
 
