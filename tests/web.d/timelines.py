@@ -4,7 +4,7 @@ import re
 import subprocess
 
 from judge import STUDY, judge, scratch_folder
-from site_of import example, started
+from site_of import example, started, wait
 from views import opened, see
 
 FOLDER = scratch_folder()
@@ -24,7 +24,9 @@ def try_timeline():
     window = opened(site)
     show_script(window)
     judge('the timeline is offered', True, see(window, LINK, True))
-    site.do('go', cycle=60000)
+    site.do('play')
+    judge('time runs', True, wait(lambda: site.state()['time']['cycle'] > 40000, 120))
+    site.do('pause')
     window.close()
     status, headers, text = site.request('GET', '/timeline')
     judge('the page', (200, True), (status, headers['Content-Security-Policy'].startswith('sandbox allow-scripts;')))
