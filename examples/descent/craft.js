@@ -163,8 +163,9 @@ export class Craft {
     const up = push * cosine;
     this.counted[PIPAZ] += along * STEP;
     this.counted[PIPAX] += up * STEP;
+    const turned = this.turning;
     this.turning += TURNING * ((this.jets & 1 ? 1 : 0) - (this.jets & 2 ? 1 : 0)) * STEP;
-    this.tilt += this.turning * STEP;
+    this.tilt += ((turned + this.turning) / 2) * STEP;
     const pull = this.pull();
     this.forward += (along - (this.forward * this.up) / (MOON + this.height)) * STEP;
     this.up += (up - pull) * STEP;

@@ -138,11 +138,12 @@ class Craft:
         counted = self.counted
         counted[PIPAZ] += along * STEP
         counted[PIPAX] += up * STEP
+        turned = self.turning
         if self.jets or self.faults:
             forward_jet = self.jets & 1 or self.fails("forward-jet")
             back_jet = self.jets & 2 or self.fails("back-jet")
             self.turning += TURNING * (bool(forward_jet) - bool(back_jet)) * STEP
-        self.tilt += self.turning * STEP
+        self.tilt += (turned + self.turning) / 2 * STEP
         pull = self.pull()
         self.forward += (along - self.forward * self.up / (MOON + self.height)) * STEP
         self.up += (up - pull) * STEP

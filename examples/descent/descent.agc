@@ -1189,7 +1189,7 @@ STEP    EXTEND
         DAS     3
         TC      Q
 # THRUST: A = the thrust for the accelerations AX and AZ, by the mass in the VAC area, 4.5 to 42.3 kN. Upward -1.12 to
-# 3 m/s/s are possible; GZ is that and gravity. Forward AX gets what is left: GZ at most, for a tilt of 45 degrees, and
+# 3 m/s/s are possible; GZ is that and gravity. Forward AX gets what is left: 3 GZ at most, for a tilt of 72 degrees, and
 # 6 m/s/s less GZ, for the engine's sake. The magnitude is a square root. THRUST3: the same for AX, the square of GZ in
 # MPAC and the address in LAWQ, without these bounds.
 THRUST  EXTEND
@@ -1201,17 +1201,18 @@ THRUST  EXTEND
         AD      MIDDLEA
         AD      GRAVITY
         TS      GZ
-        TS      TEMA
         EXTEND
         SQUARE
         DXCH    MPAC
         CS      GZ
-        DOUBLE
         AD      AMOST
+        TS      TEMA
+        AD      LESS45
         EXTEND
-        BZMF    +2
-        TCF     +3
-        AD      GZ          # the second bound is the lower one
+        BZMF    +5
+        CA      GZ          # up to 1.5 m/s/s the first bound is the lower one
+        DOUBLE
+        AD      GZ
         TS      TEMA
         CA      AX
         EXTEND
@@ -1247,6 +1248,7 @@ THRUST3 CA      AX
 LESSMIDA DEC    -962        # the middle of the bounds upward
 MIDDLEA DEC     962
 AMOST   DEC     6144        # 6 m/s/s
+LESS45  DEC     -4608       # 4.5 m/s/s
 LESSMID DEC     -1462
 MIDDLE  DEC     1462
 # ARCTAN: A = the angle in CDU pulses whose tangent is A, by a polynomial. The tangent is at most 1.
@@ -1266,6 +1268,40 @@ ARCTAN  TS      TEMA
 ATANC1  DEC     5191
 ATANC3  DEC     -1506
 ATANC5  DEC     414
+# TILTFOR: A = the tilt for the accelerations AX forward and GZ up, by the tangent of it or of what it lacks to 90 degrees.
+TILTFOR EXTEND
+        QXCH    LAWQ
+        CA      AX
+        TC      ABS
+        TS      DIVISOR
+        EXTEND
+        SU      GZ
+        EXTEND
+        BZMF    STEEP
+        CA      GZ
+        ZL
+        DXCH    MPAC
+        TC      DIVS
+        TC      ARCTAN
+        COM
+        AD      LEVEL
+        TS      TEMA
+        CA      AX
+        EXTEND
+        BZMF    +3
+        CA      TEMA
+        TC      LAWQ
+        CS      TEMA
+        TC      LAWQ
+STEEP   CA      AX
+        ZL
+        DXCH    MPAC
+        CA      GZ
+        TS      DIVISOR
+        TC      DIVS
+        TC      ARCTAN
+        TC      LAWQ
+LEVEL   DEC     8192        # 90 degrees
 # SINE: A = half of the sine of angle A, in CDU pulses, at most 8191 (90 degrees), by a polynomial.
 SINE    DOUBLE
         TS      TEMA
@@ -2385,13 +2421,7 @@ GUIDE2  INDEX   PROGNO
 # is the thrust.
 STEER   TC      THRUST
         TS      FCMD
-        ZL
-        CA      AX
-        DXCH    MPAC
-        CA      GZ
-        TS      DIVISOR
-        TC      DIVS
-        TC      ARCTAN
+        TC      TILTFOR
         TS      THETAD
         INHINT
         CCS     AVEGFLG     # a leg may have touched the ground meanwhile
@@ -2654,24 +2684,23 @@ P64     CA      VX
         CA      TEMC
         TS      AZ
         TCF     LAWDONE
-# Low gate: whoever comes to it above 150 m or faster than 20 m/s cannot reach the site. P65 lands elsewhere.
+# Low gate: where the craft will be after 16 s at its speed, P65 about lands. If that is 100 m from the site or more, the site
+# cannot be reached.
 LOWGATE CA      SIXTY5
         TS      MODREG
         CA      SIXTY
         TS      PDNOUN
         CA      ZERO
         TS      RODCOUNT
-        CA      ZN
-        AD      LESS150
-        EXTEND
-        BZMF    +2
-        TCF     FARGATE
         CA      VX
+        EXTEND
+        MP      BIT13
+        AD      XN
         TC      ABS
-        AD      LESS20MS
+        AD      LESS100
         EXTEND
         BZMF    P66
-FARGATE CA      SITEBIT
+        CA      SITEBIT
         MASK    FLAGWRD1
         EXTEND
         BZF     +2
@@ -2763,6 +2792,26 @@ RODSET  TC      RATELAW
         TC      LIMIT
         DEC     1228
         TS      AX
+        CA      AZ          # with gravity, as in THRUST: forward at most as much, for a tilt of 45 degrees near the ground
+        AD      GRAVITY
+        TC      ATLEAST
+        DEC     512
+        TS      TEMA
+        CA      AX
+        EXTEND
+        BZMF    +7
+        EXTEND
+        SU      TEMA
+        EXTEND
+        BZMF    LAWDONE
+        CA      TEMA
+        TCF     +6
+        AD      TEMA
+        EXTEND
+        BZMF    +2
+        TCF     LAWDONE
+        CS      TEMA
+        TS      AX
 LAWDONE INDEX   PROGQ
         TC      0
 RODAUTO CA      ZN
@@ -2807,8 +2856,8 @@ RATELAW EXTEND
         TC      LAWQ
 
 # P63, the end of the braking phase: to high gate, 7500 m before the site, 2300 m up, at 150 m/s forward. The time to go is
-# that at the mean of both speeds. The craft brakes evenly, and goes straight down to that altitude, never up; its rate
-# goes to that with 12.8 s. Two seconds before high gate P64 begins. What comes before is BRAKE, in the units of an orbit.
+# that at the mean of both speeds. The craft brakes evenly, never forward, and goes straight down to that altitude, never up;
+# its rate goes to that with 12.8 s. Two seconds before high gate P64 begins. What comes before is BRAKE, in the units of an orbit.
 P63LAW  CCS     ORBNAV
         TC      ENDOFJOB    # no time has gone by since then
         EXTEND
@@ -2842,6 +2891,8 @@ P63LAW  CCS     ORBNAV
         TC      DIVS        # in 2 to the -12 m/s/s
         EXTEND
         MP      BIT13
+        TC      ATMOST
+        DEC     0
         TS      AX
         CS      ZN
         AD      HHG
@@ -2879,8 +2930,7 @@ FORTIETH DEC    .025
 EIGHTHS DEC     .8
 LESS30  DEC     -30
 SINK    DEC     128         # 2 m/s
-LESS20MS DEC    -1280       # 20 m/s
-LESS150 DEC     -150
+LESS100 DEC     -100
 LESS358 DEC     -358
 
 # ---- bank 06: fresh start, P00 and restart, and what BANKCALL calls
@@ -3473,6 +3523,9 @@ ORBENG  TS      FCMD
         DDOUBL
         DDOUBL
         TS      ALTKM
+        TCF     +3
+        CA      POSMAX      # above 163 km
+        TS      ALTKM
         CA      ORBTGO
         AD      LESSCUT
         EXTEND
@@ -3532,8 +3585,20 @@ ORBTURN CA      ORBTGO
         DXCH    MPAC
         CA      ZERO
         TC      CLIMB
-        TCF     +2
-ORBHOLD CA      ZERO
+        TS      AZ
+        CA      ORBTGO
+        TC      NORATE
+        AD      FALLRATE
+        EXTEND
+        SU      AZ
+        TC      ATMOST
+        DEC     0
+        AD      AZ
+        TCF     +5
+ORBHOLD CA      TENSECS
+        TC      NORATE
+        TC      LIMIT
+        DEC     2560
         TC      ENGLEFT     # forward is what the engine has left
         TC      TILTFOR
 ORBTILT TS      THETAD
@@ -3546,6 +3611,18 @@ ORBTILT TS      THETAD
         WRITE   THROTTLE
         TC      ENDOFJOB
 
+# NORATE: A = -2 VZ by the time in A, 4.5 m/s/s at most. With 2 m/s/s more it is the most that an abort wants upward: then it can
+# still end without a rate by 2 m/s/s down, though short of the altitude. In the last ten seconds it is all.
+NORATE  TS      DIVISOR
+        EXTEND
+        QXCH    LAWQ
+        EXTEND
+        DCS     VZ
+        DXCH    MPAC
+        TC      DIVS
+        TC      LIMIT
+        DEC     4608
+        TC      LAWQ
 # CLIMB: A = the acceleration up that brings the craft in the time to go T to the altitude in MPAC, at a rate there that is
 # minus a half of A: 6/T (way/T) - 4 VZ/T + A/T, 2.5 m/s/s at most.
 CLIMB   TS      ORBTEM
@@ -3606,32 +3683,6 @@ ENGLEFT TS      AZ
         DAS     MPAC
         TC      SQRT
         TS      AX
-        TC      LAWQ
-# TILTFOR: A = the tilt for the accelerations AX forward and GZ up, by the tangent that is not above one.
-TILTFOR EXTEND
-        QXCH    LAWQ
-        CA      AX
-        EXTEND
-        SU      GZ
-        EXTEND
-        BZMF    STEEP
-        CA      GZ
-        ZL
-        DXCH    MPAC
-        CA      AX
-        TS      DIVISOR
-        TC      DIVS
-        TC      ARCTAN
-        COM
-        AD      LEVEL
-        TC      LAWQ
-STEEP   CA      AX
-        ZL
-        DXCH    MPAC
-        CA      GZ
-        TS      DIVISOR
-        TC      DIVS
-        TC      ARCTAN
         TC      LAWQ
 # RATESHOW: the altitude rate for the display.
 RATESHOW EXTEND
@@ -3776,7 +3827,10 @@ BRKSHOW EXTEND
         TC      TIMES32     # in m
         TS      BRKALT
         TC      LAWQ
-# TIMES32: A and L = the state's words from XN + A on, times 32.
+        CA      POSMAX      # above 16,383 m
+        TS      BRKALT
+        TC      LAWQ
+# TIMES32: A and L = the state's words from XN + A on, times 32, with an overflow if they have no place.
 TIMES32 EXTEND
         INDEX   A
         DCA     XN
@@ -3954,8 +4008,9 @@ TAILOFF DEC     -20
 RISERATE DEC    30          # 15 m/s
 LESSRISE DEC    -150        # 4.8 km
 LESSHOLD DEC    -160        # 10 s
+TENSECS DEC     160
+FALLRATE DEC    2048        # 2 m/s/s
 MOSTUP  DEC     .95
-LEVEL   DEC     8192        # 90 degrees
 PER200M DEC     .16
 PER100M DEC     .32
 MOON200M DEC    8687

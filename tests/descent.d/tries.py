@@ -121,6 +121,11 @@ def start_of(seed):
             return start
 
 
+def is_too_fast(way, forward):
+    """Whether the forward speed takes less than 45 seconds to the site: alarm 3003 may come."""
+    return way < 45 * abs(forward)
+
+
 def craft_at(start, seed):
     """The craft at a start: height, way, forward, down."""
     return example.Craft(*start, seed, is_far=start[1] > 20000)
@@ -201,7 +206,7 @@ def flight(seed):
             writes += written
         writes += machine.go(1000)
         panel, tables = machine.panel(), machine.tables(SPEC)
-        alarm = machine.word("FAILREG")
+        alarms = {machine.word("FAILREG", n) for n in range(3)} - {0}
         text = machine.script()
         with open(script, "w") as file:
             file.write(text)
@@ -211,7 +216,9 @@ def flight(seed):
     wanted = [" ".join(pair) for pair in panel.items()]
     wrong = []
     up, forward_then, tilt, miss = craft.touched or (-99, 99, 99, 99)
-    aborted = craft.in_orbit() and panel["PROG"] in ("70", "71") and alarm == 0o3004 and not near_gate
+    aborted = craft.in_orbit() and panel["PROG"] in ("70", "71") and 0o3004 in alarms and not near_gate
+    reasons = {0o3003} if is_too_fast(way, forward) else set()
+    reasons |= {0o521} if height - 10 * down > example.HIGHEST else set()  # it climbs to where the radar sees no ground
     late = craft.fuel() < 400 + 0.015 * example.LOADED  # of fuel: the alarm of low fuel may have come
     other = integrated((height, way, forward, down), seed, writes, now if aborted else now - 3)
     up, forward_then, tilt = (craft.up, craft.forward, math.degrees(craft.tilt)) if aborted else (up, forward_then, tilt)
@@ -224,11 +231,9 @@ def flight(seed):
         ("at the site from high gate", not near_gate or abs(miss) < 40),
         ("engine off", aborted or not craft.engine),
         ("fuel left", craft.fuel() > 0),
-        ("no alarm from high gate", alarm == 0 or not near_gate),
-        (
-            "a reason for an alarm",
-            aborted or alarm == 0 or alarm == 0o3003 and (height > 110 or forward > 20) or alarm == 0o3004 and late,
-        ),
+        ("at the site without alarm 3003", aborted or 0o3003 in alarms or abs(miss) < 100),
+        ("no alarm from high gate", not alarms or not near_gate),
+        ("a reason for an alarm", alarms <= reasons | ({0o3004} if late else set())),
         ("the other integration, up", abs(other[0] - up) < 0.08),
         ("the other integration, forward", abs(other[1] - forward_then) < 0.08),
         ("the other integration, tilt", abs(other[2] - tilt) < 0.15),
@@ -439,10 +444,13 @@ def guided(way, height, forward, up, degrees, mass, program=64):
 #   59 m/s: 6000/59 = 101.69;  0.059000;  39.333 less 57: -17.667;  -11.210 and 18: 6.790; 2.0206; -0.5158; the root of
 #   1.0864 + 4.0828 is 2.2736.
 #   9 m/s: 180/9 = 20;  0.3;  6 less 7: -1;  -4 and 4.5: 0.5;  1.7700; -0.1695; the root of 0.0900 + 3.1329 is 1.7952.
+#   154 m/s, from 3000 m: forward as above;  -5940/146.10 = -40.657, and 32: -8.657;  -0.3555 and 1.2645; the tangent of what
+#   the tilt lacks to 90 degrees is 1.2645/2.0260 = 0.6241, for 31.97 degrees; the root of 4.1047 + 1.5990 is 2.3882.
 ROWS = [
     ((7500, 2300, 150, -45, -40, 8500), (146.10, -2.0260, 0.6540, -41.70, 25888, 3.0456)),
     ((2000, 600, 55, -16, -30, 8100), (101.69, -1.0423, 0.4006, -27.29, 18416, 2.2736)),
     ((60, 70, 5, -2.5, -8, 7700), (20.00, -0.3000, 0.1500, -9.62, 13823, 1.7952)),
+    ((7500, 3000, 150, -30, -60, 8500), (146.10, -2.0260, -0.3555, -58.03, 20300, 2.3882)),
 ]
 
 
@@ -459,6 +467,17 @@ def try_guidance():
             near(f"{name}: tilt", tilt, machine.word("THETAD") / example.DEGREE, math.degrees(error / wanted) + 0.05)
             near(f"{name}: thrust", thrust, 4 * machine.word("FCMD"), state[5] * error + 32)
             judge(f"{name}: the throttle's channel", machine.word("FCMD"), machine.channel(example.THROTTLE))
+    # From 4000 m at -20 m/s it wants 0.041067 (-54.346 + 22) = -1.328 up: -1.12 is the least, for 0.5 with gravity. Forward three
+    # times as much is possible, -1.5; the root of 2.25 and 0.25 is 1.5811, the tilt that whose tangent is 3
+    with guided(7500, 4000, 150, -20, -70, 8500) as machine:
+        near("the steepest tilt: forward", -1.5, machine.word("AX") / 1024, 0.003)
+        near("the steepest tilt", -71.57, machine.word("THETAD") / example.DEGREE, 0.1)
+        near("the steepest tilt: thrust", 8500 * 1.5811, 4 * machine.word("FCMD"), 40)
+    # P65 wants -1.2 forward at 60 m/s. At 100 m with 3 m/s up it wants more than 3 m/s/s down, so the upward part is 0.5, and
+    # forward as much
+    with guided(40, 100, 60, 3, -40, 7600, 65) as machine:
+        near("P65: forward as much as up", -0.5, machine.word("AX") / 1024, 0.003)
+        near("P65: 45 degrees", -45, machine.word("THETAD") / example.DEGREE, 0.1)
     # P65 at 20 m: the rate is to be -(0.8 + 20/32) = -1.425; (-1.425 + 3)/1.6 = 0.9844 up, -1/8 = -0.125 forward; with
     # gravity 2.6044; the root of 6.7828 + 0.0156 is 2.6074, the tangent -0.0480
     with guided(40, 20, 1, -3, 2, 7600, 65) as machine:
@@ -469,6 +488,19 @@ def try_guidance():
     # P66 with a rate of zero: 3/1.6 = 1.875 up
     with guided(40, 20, 1, -3, 2, 7600, 66) as machine:
         near("P66: up", 1.875, machine.word("AZ") / 1024, 0.015)
+
+
+def try_low_gate():
+    """With less than 12 s to go P65 begins. Only if the craft, moved on by 16 s at its speed, is 100 m from the site or more does
+    alarm 3003 come, whatever the altitude."""
+    for what, state, alarm in (
+        ("80 m on from 30 m before the site, 400 m up", (30, 400, 5, -2), 0),
+        ("144 m on from 30 m before the site", (30, 100, 9, -2), 0o3003),
+        ("112 m back from the site", (0, 100, -7, -2), 0o3003),
+        ("96 m back from the site", (0, 3000, -6, -2), 0),
+    ):
+        with guided(*state, -5, 7700) as machine:
+            judge(f"low gate, {what}", (65, alarm), (machine.word("MODREG"), machine.word("FAILREG", 2)))
 
 
 def ahead(way, height, forward, up, mass):
@@ -690,7 +722,7 @@ def try_fast_switch():
 
 
 def braked(seed):
-    """A flight by P63: whether it landed, its programs, the last alarm, the way that was left, and its events."""
+    """A flight by P63: whether it landed, its programs and alarms, the way that was left, its events, and whether it is too fast."""
     chance = random.Random(4000 + seed)
     start = example.BEFORE_HIGH_GATE
     if seed:
@@ -703,15 +735,16 @@ def braked(seed):
                 programs.append(machine.panel()["PROG"])
         programs.append(machine.panel()["PROG"])
         events = len(machine.script().splitlines())
-        return craft.landed(), programs, machine.word("FAILREG", 2), (craft.touched or [99999])[-1], events
+        alarms = {machine.word("FAILREG", n) for n in range(3)} - {0}
+        return craft.landed(), programs, alarms, (craft.touched or [99999])[-1], events, is_too_fast(start["way"], start["forward"])
 
 
 def try_braking(flights):
-    """P63 flies to high gate, P64 on from there. From 15 km, the flight ends at the site; from elsewhere it may be beside it."""
-    for seed, (landed_well, programs, alarm, miss, events) in enumerate(flights.get()):
+    """P63 flies to high gate, P64 on from there to the site. Only if it is too fast it may be beside it, and says so."""
+    for seed, (landed_well, programs, alarms, miss, events, too_fast) in enumerate(flights.get()):
         judge(f"braking {seed}: it lands", (True, "68"), (landed_well, programs[-1]))
         judge(f"braking {seed}: 50,000 events at most", True, events <= 50000)
-        judge(f"braking {seed}: the alarm", True, alarm == 0 or alarm == 0o3003 and seed > 0)
+        judge(f"braking {seed}: alarm 3003, or at the site", True, alarms == {0o3003} and too_fast or not alarms and abs(miss) < 100)
         if seed == 0:
             judge("P63 and P64", ["63", "64", "65"], [each for each in programs if each in ("63", "64", "65")])
             near("at the site", 0, miss, 40)
@@ -834,6 +867,28 @@ def try_far_guidance():
             judge(f"{what}: a bad load", ("00", 0o3005), (machine.panel()["PROG"], machine.word("FAILREG", 2)))
 
 
+def try_high_above():
+    """Above 16,383 m P63 far from the site shows +16383, and flies on; above 163 km so does an abort."""
+    with far_machine(300000, 16000, 1000, 40, -60, 10000) as machine:
+        machine.pro(True)
+        machine.seconds(0.3)
+        machine.pro(False)
+        machine.seconds(1)
+        machine.put_both("ZN", 17000 / 32)
+        machine.seconds(2.5)
+        panel = machine.panel()
+        judge("P63 at 17 km", ("63", "63", "+16383"), (panel["PROG"], panel["NOUN"], panel["R3"]))
+        near("its altitude", 17000 / 32, machine.both("ZN"), 5)
+        near("its way", 300000 - 3900, -32 * machine.both("XN"), 1000)
+        machine.press("VERB 3 7 ENTR 7 0 ENTR", 0.1)
+        machine.seconds(1.5)
+        machine.put_both("ZN", 170000 / 32)
+        machine.seconds(5)
+        panel = machine.panel()
+        judge("an abort at 170 km", ("94", "+16383"), (panel["NOUN"], panel["R3"]))
+        judge("its engine is on", 1 << 12, machine.channel(example.LAMPS) & 1 << 12)
+
+
 def try_near_units():
     """Eight seconds before its point P63 comes into the units of a landing; coarse pulses that are on their way count. From 14 km, 3800 m, 210 m/s and
     -45 m/s the time to go is 2 * 1200/400 = 6 s. Five pulses of 0.468 m/s back and three up leave 207.66 and -43.596 m/s."""
@@ -905,6 +960,8 @@ ABORTS = [
     ("far from the site", (15000.0, 500000.0, 1692.0, 0.0), 63, 70, 300.0, 0),
     ("far from the site, ascent stage", (15000.0, 500000.0, 1692.0, 0.0), 63, 71, 430.0, 0),
     ("as P63 begins", (15000.0, 500000.0, 1692.0, 0.0), 63, 70, 3.5, 0),
+    ("with no time to climb", (13000.0, 500000.0, 1660.0, 5.0), 63, 70, 4.0, 0),
+    ("with no time to climb, ascent stage", (13000.0, 500000.0, 1660.0, -10.0), 63, 71, 19.0, 0),
 ]
 
 
@@ -964,7 +1021,7 @@ def abort_flight(number):
         ("the perilune is above 10 km", low > 10),
         ("the apolune is below 120 km", low < high < 120),
         ("program and noun", shown[0] in ("70", "71") and shown[1:3] == ["06", "44"]),
-        ("no alarm", alarms == [0, 0, 0]),
+        ("no alarm", set(alarms) <= ({0, 0o3003} if is_too_fast(start[1], start[2]) else {0})),
         ("the DSKY's apolune", abs(registers[0] - high) < 8),
         ("the DSKY's perilune", abs(registers[1] - low) < 1.5),
         ("the DSKY's speed", abs(registers[2] - craft.forward) < 2.5),
@@ -1497,6 +1554,16 @@ def try_forced(flights):
 # arithmetic
 
 
+def try_turning():
+    """A jet turns the craft by rate t + 4 degrees/s/s t²/2: after a second at 0.3 degrees/s by 2.3 degrees, however long a step is."""
+    craft = example.Craft()
+    craft.flying, craft.jets, craft.tilt, craft.turning = True, 1, 0.0, 0.3 * example.RADIAN
+    for _ in range(100):
+        craft.step()
+    near("the tilt after a second of a jet", 2.3, exact.degrees(craft.tilt), 1e-6)
+    near("the rate", 4.3, exact.degrees(craft.turning), 1e-6)
+
+
 def try_exact():
     """The craft's arithmetic: the published 10,000th state of the generator that begins with 1, and Python's own sine. A square
     root is rounded in one way, too."""
@@ -1668,6 +1735,7 @@ def main():
             (try_rope,),
             (try_assembler,),
             (try_guidance,),
+            (try_low_gate,),
             (try_scaling,),
             (try_displays,),
             (try_slant_range,),
@@ -1681,6 +1749,7 @@ def main():
             (try_orbit, orbits),
             (try_far_guidance,),
             (try_near_units,),
+            (try_high_above,),
             (try_stormy_orbit, orbit_storms),
             (try_aborts, aborts),
             (try_stormy_aborts, storms),
@@ -1693,6 +1762,7 @@ def main():
             (try_instrument,),
             (try_buttons,),
             (try_mistakes,),
+            (try_turning,),
             (try_exact,),
             (try_engine,),
             (try_touchdown,),
