@@ -94,6 +94,7 @@ def try_limits():
             if stop:
                 session.play()
                 wait(lambda: not session.playing)
+                session.call(lambda: None)  # the machine has shown the way to the stop
             else:
                 session.inject(lambda machine: machine.go_to(400))
             judge(f'stopped by {what}', (stop, wanted), (console.stop, session.repeat().limit))
