@@ -114,6 +114,14 @@ def try_data():
     judge("the end", f"to {LAST}", lines[-1])
 
 
+def is_shown(bar, state, words):
+    """Whether a bar, or none, is what `jobs` prints of a set."""
+    if state == "FREE" or bar is None:
+        return state == "FREE" and bar is None
+    priority, _, loc, _, bankset = words[:5]
+    return bar[4:6] == [state, priority] and [loc, bankset] in bar[6:]
+
+
 def try_bars():
     opened(PAGE)
     judge("no error of the page", [], browser.errors())
@@ -122,15 +130,20 @@ def try_bars():
     cycles = sorted(cycle for cycle in chance.sample(range(FIRST + AROUND, LAST), 500) if reading.is_quiet(cycle, AROUND))
     check(f"{len(cycles)} cycles to look at", len(cycles) > 150)
     named = reading.jobs_at(cycles)
+    wrong, wrong_jobs = [], []
     for cycle, jobs in zip(cycles, named):
         there = {bar[0]: bar for bar in bars if bar[1] <= cycle < bar[2]}
-        judge(f"the sets in use at {cycle}", {number for number in range(8) if reading.held(number, cycle)[0] != "FREE"}, set(there))
-        for number, bar in there.items():
-            state, priority, _, loc, _, bankset = reading.held(number, cycle)[:6]
-            judge(f"set {number} at {cycle}", [state, priority, True], [bar[4], bar[5], [loc, bankset] in bar[6:]])
+        for number in range(8):
+            state, *words = reading.held(number, cycle)
+            bar = there.get(number)
+            if not is_shown(bar, state, words):
+                wrong.append((cycle, number, state, words, bar))
             # A job of before the part has the name of the place where it goes on.
-            if jobs.get(number):
-                judge(f"the job in set {number} at {cycle}", jobs[number], bar[3])
+            elif bar and jobs.get(number) not in (None, bar[3]):
+                wrong_jobs.append((cycle, number, jobs[number], bar[3]))
+    judge("the sets and their bars", [], wrong)
+    judge("the jobs in the sets", [], wrong_jobs)
+    check("of most jobs the beginning was seen", sum(len(jobs) for jobs in named) > len(cycles))
     judge("idle", [reading.held(0, cycle)[0] != "READY" for cycle in cycles], browser.value(f"{cycles}.map((cycle) => idle.at(cycle) !== null)"))
     found = browser.value("services.bars.map(({ from, to, name }) => [from, to, name])")
     judge("the bars of interrupts", [[begun, end or LAST, name] for begun, end, name in reading.services], found)
