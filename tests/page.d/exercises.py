@@ -177,8 +177,8 @@ def try_bug():
         shows = "[...document.querySelectorAll('#watched tr')].map((each) => [each.dataset.place, each.children[1].textContent])"
         wanted = [[place, f'{word:05o}'] for place, word in areas.items()]
         judge('the page shows them', wanted, page.see(shows, wanted, 60))
-        used = '1 of 8 core sets are in use, by these jobs:' if jobs else 'None of the 8 core sets is in use.'
-        judge('the tab Alarm', used, page.value("find('why-used').textContent"))
+        used = page.value("find('why-used').textContent")
+        check(f'the tab Alarm says {used}', used in ('None of the 8 core sets is in use.', '1 of 8 core sets are in use, by these jobs:'))
 
     def at_mask(is_new):
         """A has lost the address that PRIORITY has."""

@@ -50,7 +50,7 @@ FAULTS = (
     ('guide A\nstep B\nlabel', 'line 3: a label is what the button says'),
     ('guide A\nlabel Go on', 'line 2: this comes after its step'),
     ('guide A\nstep B\nflip C', 'line 3: unknown word flip: guide, need, step, why, label, click or until'),
-    ('guide A\nstep B\nclick flip', 'line 3: click flip is unknown: keys, play, pause, step, undo, return, start, why, speed, press, tab, break, back, watch'),
+    ('guide A\nstep B\nclick flip', 'line 3: click flip is unknown: keys, play, pause, step, undo, return, start, why, speed, press, tab, break, clear, back, watch'),
     ('guide A\n\n# note\nstep B\nclick keys 3 FLIP', 'line 5: click keys: no key FLIP'),
     ('guide A\nstep B\nclick speed 7', 'line 3: click speed: a speed is 1, 10, 100 or 1000'),
     ('guide A\nstep B\nuntil PROG 6', 'line 3: until PROG: 2 characters, with _ for a blank'),

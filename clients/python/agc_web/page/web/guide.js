@@ -101,6 +101,7 @@ const CLICKS = {
   press: (text) => (text ? { run: () => pressControl(text) } : 'name a button of an instrument'),
   tab: (text) => (text ? { run: () => chooseTab(text) } : 'name a tab'),
   break: (text) => (text ? { run: () => ask('break', { place: text }) } : 'name a place'),
+  clear: () => ({ run: () => (shown.breakpoints || []).forEach((place) => ask('unbreak', { place })) }),
   back: (text) => (text ? { run: () => backTo(text) } : 'name a place'),
   watch: (text) => (text ? { run: () => addWatch(text) } : 'name a place'),
 };
