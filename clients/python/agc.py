@@ -963,7 +963,7 @@ def sample(
                           every=85333, names="examples/descent/names"):
             print(row["seconds"], row["altitude"])
 
-    A row comes after each so many cycles, `at` each arrival of the order at a place, or with `changes` after each change
+    A row comes `every` number of cycles, `at` each arrival of the order at a place, or with `changes` after each change
     of a quantity. `options` are other words of the command line, as ("--from", "100000"). The program is `agc-study` beside
     the console of this client, or on the path; `program` names another one. What it refuses is an `Ended`."""
     chosen = [*([] if every is None else [f"--every={every}"]), *([] if at is None else [f"--at={_place(at)}"]), *["--changes"] * changes]
