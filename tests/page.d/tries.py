@@ -17,6 +17,7 @@ import time
 import types
 import zlib
 
+import caused
 import exercises
 import flights
 import listing
@@ -177,7 +178,7 @@ def try_firefox():
 
 TRIES = (
     try_made, try_packed, try_session, try_example, web.try_changes, web.try_stop, web.try_sizes, try_words, try_old, *flights.TRIES, *twins.TRIES, *randoms.TRIES,
-    *opening.TRIES, *source.TRIES, *exercises.TRIES, *plotted.TRIES, *(listing.TRIES if source.HAS_ASSEMBLER else ()),
+    *opening.TRIES, *source.TRIES, *exercises.TRIES, *plotted.TRIES, *caused.TRIES, *(listing.TRIES if source.HAS_ASSEMBLER else ()),
 )
 
 

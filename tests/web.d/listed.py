@@ -330,6 +330,11 @@ def try_alarm():
     place = traced(folder, site.script(), [call])[call]
     number = read(folder)[1][physical(place)]
     judge('the line of the call', (['TC', 'FINDVAC'], [number]), (lines[number][2].split('#')[0].split()[-2:], see(window, LIT, [number])))
+    site.do('undo')
+    site.do('undo')
+    wait(lambda: window.value("isLit('PROG')"))
+    window.value("document.querySelector('[data-lamp=PROG] button').click(); undefined")
+    judge('the lamp itself leads there too', ('BAILOUT', cycle), (line_lit(window, lines, 'BAILOUT'), see(window, 'now.cycle', cycle)))
     judge('errors of the page', [], window.errors())
     window.close()
     site.end()

@@ -28,6 +28,7 @@ from judge import AGC, CONSOLE, TOP, attempt, check, depends_on_time, finish, ju
 from site_of import LONGEST, Site, example, free_ports, keys_in, started, wait
 from window import Window
 import buttons
+import causes
 import ends
 import filmed
 import found
@@ -1549,7 +1550,7 @@ TRIES = (
     try_serve, try_gone, try_hangup, try_lander, try_late_view, try_names_and_pictures, try_stop, try_random, try_face,
     try_client, try_install, *ends.TRIES, *rooms.TRIES, *times.TRIES, *views.TRIES, *buttons.TRIES, *filmed.TRIES, *found.TRIES,
     *guides.TRIES, *whys.TRIES, *listens.TRIES, *listed.TRIES, *looks.TRIES, *quantities.TRIES, *nouns.TRIES, *storms.TRIES,
-    *timelines.TRIES,
+    *timelines.TRIES, *causes.TRIES,
 )
 
 

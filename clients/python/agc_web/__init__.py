@@ -10,7 +10,7 @@ page.
 
 The parts need only Python's standard library. `session.py` is the one machine behind the page: `worker.py` has its thread,
 `clock.py` its pace, `keyboard.py` the keys that wait, `ticks.py` the instruments, `journal.py` the events of which the script
-is made, `rewinder.py` going back, `breakpoints.py` breakpoints, `news.py` what is shown. `server.py` sends news to the page
+is made, `rewinder.py` going back, `breakpoints.py` breakpoints, `searcher.py` and `causes.py` searches backwards, `news.py` what is shown. `server.py` sends news to the page
 by a WebSocket (`stream.py`) and takes JSON from it, from those that `gate.py` lets in; `film.py` has films made.
 `command.py` has the command line and `serve`, `beside.py` finds names, tables and texts for the page, `ending.py` the signals, `saving.py` what becomes of the script.
 `instruments.py` and `protocol.py` serve the sockets of docs/INSTRUMENTS.md. `page/web`

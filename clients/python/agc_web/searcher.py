@@ -2,7 +2,8 @@
 
 import os
 import tempfile
-from typing import List, NamedTuple, Optional, Sequence
+from contextlib import contextmanager
+from typing import Iterator, List, NamedTuple, Optional, Sequence
 
 from agc import Console, Ended, Refused
 
@@ -20,6 +21,15 @@ class Found(NamedTuple):
 def last_hit(console: Console, script: str, before: int, texts: Sequence[str]) -> Optional[Found]:
     """Returns the last boundary before a cycle that hits one of these, in the words of the console's `back until`; None if
     there is none. Raises `Refused` if one of them is no place."""
+    with second(console, script) as other:
+        hits = [_hit(other, before, text) for text in texts]
+        cycles = [cycle for cycle in hits if cycle is not None]
+        return _found(other, before, max(cycles)) if cycles else None
+
+
+@contextmanager
+def second(console: Console, script: str) -> Iterator[Console]:
+    """Starts another console of the same rope, with this script."""
     try:
         with tempfile.TemporaryDirectory() as folder:
             path = os.path.join(folder, "script")
@@ -27,9 +37,7 @@ def last_hit(console: Console, script: str, before: int, texts: Sequence[str]) -
                 file.write(script)
             with console.again(path) as other:
                 other.quiet()
-                hits = [_hit(other, before, text) for text in texts]
-                cycles = [cycle for cycle in hits if cycle is not None]
-                return _found(other, before, max(cycles)) if cycles else None
+                yield other
     except OSError as error:
         raise Ended(f"no script for a second console: {error.strerror or error}", None) from None
 

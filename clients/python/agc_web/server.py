@@ -17,7 +17,7 @@ import time
 from contextlib import suppress
 from http import HTTPStatus
 from http.server import BaseHTTPRequestHandler, ThreadingHTTPServer
-from typing import Any, Callable, Dict, Optional, Tuple
+from typing import Any, Callable, Dict, List, Optional, Tuple
 from urllib.parse import parse_qs, urlsplit
 
 from agc import Console, Ended, Refused
@@ -401,6 +401,8 @@ class Handler(BaseHTTPRequestHandler):
             self._send_json(look(self.server.session, body))
         elif path == "/find":
             self._send_json(found_before(self.server.session, body))
+        elif path == "/cause":
+            self._send_json({"line": self.server.session.cause(texts_of(body))})
         else:
             raise BadRequest(HTTPStatus.NOT_FOUND, "there is no such page")
 
@@ -517,11 +519,17 @@ def look(session: Session, body: Dict[str, Any]) -> Dict[str, Any]:
     return found
 
 
-def found_before(session: Session, body: Dict[str, Any]) -> Dict[str, int]:
-    """Returns where the last boundary was that hit one of these places, before a cycle if the body has one."""
-    places, before = item(body, "places", list), body.get("before")
+def texts_of(body: Dict[str, Any]) -> List[str]:
+    """Returns what a search looks for."""
+    places: List[str] = item(body, "places", list)
     if not all(isinstance(each, str) for each in places):
         raise ValueError("places are texts")
+    return places
+
+
+def found_before(session: Session, body: Dict[str, Any]) -> Dict[str, int]:
+    """Returns where the last boundary was that hit one of these places, before a cycle if the body has one."""
+    places, before = texts_of(body), body.get("before")
     if before is not None and type(before) is not int:
         raise ValueError("before is a cycle")
     return session.find(places, before)._asdict()

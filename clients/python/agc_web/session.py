@@ -16,6 +16,7 @@ from typing import Any, Callable, Deque, List, NamedTuple, Optional, Sequence, T
 
 from agc import EVENTS, Answer, Console, Ended, Refused, Write
 from agc_web.breakpoints import Breakpoints
+from agc_web.causes import last_cause
 from agc_web.clock import SPEEDS, Clock
 from agc_web.journal import Event, Journal, Repeat
 from agc_web.keyboard import KEY_GAP, KEYS, Keyboard
@@ -471,6 +472,13 @@ class Session:
         if found is None:
             raise Unable(f"{' or '.join(places)} was not hit before cycle {here}")
         return found
+
+    @_on_machine
+    def cause(self, texts: List[str]) -> Optional[str]:
+        """Returns the line of the boundary that changed one of these last, as `last_cause` has them; None if nothing has."""
+        texts = checked(texts)
+        self._want_console()
+        return last_cause(self.console, self.script(), texts)
 
     @_on_machine
     def undo(self, sure: bool = False) -> None:

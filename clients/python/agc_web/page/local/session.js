@@ -92,6 +92,7 @@ const session = {
   do: (command, more) => callEngine('do', { do: command, ...more }),
   look: (wanted) => callEngine('look', wanted),
   find: (wanted) => callEngine('find', wanted),
+  cause: (wanted) => callEngine('cause', wanted),
   script: async () => (await callEngine('script')).script,
   weave: (text, file) => weaveText(text, file),
   source: async () => ({ listing: await listingOf(session.files), rope: session.files.rope, form: session.files.form }),
@@ -151,7 +152,8 @@ function resetPage() {
   Object.assign(guiding, { text: undefined, guide: null, at: 0 });
   Object.assign(why, { pending: null, darkAt: null, isExplained: false });
   Object.assign(quantities, { about: null, rows: [] });
+  sayCause(null);
   Object.assign(plot, noCurves(), { epoch: plot.epoch + 1 });
   Object.assign(inspector, { tab: 'orders', cycle: -1, events: -1, watched: [] });
-  for (const cell of document.querySelectorAll('#memory tbody td, #channels .word')) cell.textContent = '';
+  for (const cell of document.querySelectorAll('#memory tbody button, #channels .word')) cell.textContent = '';
 }

@@ -12,11 +12,11 @@ let proHeldBy = ''; // what holds PRO down here: a key of the keyboard or a poin
 function buildFace() {
   const lamps = LAMPS.map((name, i) => `<li class="${i % 2 ? 'caution' : ''}" data-lamp="${name}">${name}</li>`).join('');
   const pair = (name) => `<div><span class="name">${name}</span>${places(name, 2, '')}</div>`;
-  const registers = ['R1', 'R2', 'R3'].map((name) => places(name, 6, 'register')).join('');
+  const registers = ['R1', 'R2', 'R3'].map((name) => `<div class="wide">${places(name, 6, 'register')}</div>`).join('');
   const activity = '<div class="acty" data-lamp="COMP ACTY">COMP<br>ACTY</div>';
   live.section = find('face');
-  live.section.innerHTML = `<div class="dsky"><ul class="lamps" aria-hidden="true">${lamps}</ul>`
-    + `<div class="display" aria-hidden="true">${activity}${pair('PROG')}${pair('VERB')}${pair('NOUN')}${registers}</div>`
+  live.section.innerHTML = `<div class="dsky"><ul class="lamps" aria-label="Lamps">${lamps}</ul>`
+    + `<div class="display" role="group" aria-label="Display">${activity}${pair('PROG')}${pair('VERB')}${pair('NOUN')}${registers}</div>`
     + '<div class="keys" role="group" aria-label="Keyboard"></div></div>';
   KEYS.forEach(([row, names], column) => names.split(' ').forEach((name, i) => addKey(name, column + 1, row + 2 * i)));
 }

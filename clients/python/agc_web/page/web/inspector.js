@@ -181,38 +181,56 @@ function buildMemory() {
   find('memory').append(make('thead', {}, make('tr', {}, make('td'), ...digits)));
   const body = make('tbody');
   for (let row = 0; row < 32; row += 1) {
-    const cells = [...Array(8).keys()].map(() => make('td'));
+    const cells = [...Array(8).keys()].map((low) => make('td', {}, cellButton(8 * row + low)));
     body.append(make('tr', {}, make('th', { scope: 'row' }), ...cells));
   }
   find('memory').append(body);
   find('bank').addEventListener('change', () => {
     inspector.bank = Number(find('bank').value);
     nameRows();
-    for (const cell of find('memory').querySelectorAll('tbody td')) cell.textContent = '';
+    for (const cell of find('memory').querySelectorAll('tbody button')) cell.textContent = '';
     look();
   });
+  moveAmong(find('memory'), 'button', { ArrowLeft: -1, ArrowUp: -8, ArrowRight: 1, ArrowDown: 8 });
   nameRows();
+}
+
+function cellButton(number) {
+  const button = make('button', { type: 'button' });
+  button.addEventListener('click', () => explain(cellPlace(number), [`cell ${cellPlace(number)}`]));
+  return button;
 }
 
 // The rows of a bank by their addresses: banks E0 to E2 are 0000 to 1377, the others are seen through 1400 to 1777.
 function nameRows() {
-  const bank = inspector.bank;
-  [...find('memory').querySelectorAll('tbody th')].forEach((head, row) => {
-    head.textContent = bank < 3 ? octal(256 * bank + 8 * row, 4) : `E${bank},${octal(0o1400 + 8 * row, 4)}`;
-  });
+  [...find('memory').querySelectorAll('tbody th')].forEach((head, row) => { head.textContent = cellPlace(8 * row); });
+}
+
+// The place of a cell of the bank that is shown.
+function cellPlace(number) {
+  const { bank } = inspector;
+  return bank < 3 ? octal(256 * bank + number, 4) : `E${bank},${octal(0o1400 + number, 4)}`;
 }
 
 function showBank(words) {
   const cells = find('memory').querySelectorAll('tbody td');
   words.forEach((word, i) => {
-    showChanged(cells[i], octal(word));
-    cells[i].title = decimal(word);
+    if (cells[i].textContent === octal(word)) {
+      cells[i].classList.remove('changed');
+      return;
+    }
+    cells[i].classList.toggle('changed', cells[i].textContent !== '');
+    const button = cells[i].firstChild;
+    button.textContent = octal(word);
+    button.title = `${decimal(word)}. Click: what changed ${cellPlace(i)} last?`;
+    button.setAttribute('aria-label', `${cellPlace(i)}: ${octal(word)}. What changed it last?`);
   });
 }
 
 function buildChannels() {
   find('channels').append(...CHANNELS.map(([number, what]) => make('tr', {},
-    make('th', { scope: 'row' }, octal(number, 2)), make('td', { id: `channel-${number}`, class: 'word' }), make('td', {}, what))));
+    make('th', { scope: 'row' }, octal(number, 2)), make('td', { id: `channel-${number}`, class: 'word' }), make('td', {}, what),
+    make('td', {}, causeButton(`channel ${octal(number, 2)}`, [`write ${octal(number, 1)}`])))));
 }
 
 // the watch list
@@ -222,7 +240,7 @@ function addWatch(place) {
   inspector.watched.push(place);
   keepWatched();
   const remove = make('button', { type: 'button', 'aria-label': `Remove ${place}` }, '✕');
-  const row = make('tr', { 'data-place': place }, make('th', { scope: 'row' }, place), make('td', { class: 'word' }), make('td'), make('td', {}, remove));
+  const row = make('tr', { 'data-place': place }, make('th', { scope: 'row' }, place), make('td', { class: 'word' }), make('td'), make('td', {}, causeButton(place, [`cell ${place}`]), ' ', remove));
   remove.addEventListener('click', () => {
     inspector.watched = inspector.watched.filter((each) => each !== place);
     keepWatched();

@@ -56,6 +56,7 @@ async function readAndCompare() {
   listing.label = files.size > 1 ? ({ file, number }) => `${file} ${number}` : ({ number }) => number;
   const longest = read.lines.reduce((most, line) => Math.max(most, listing.label(line).length), 0);
   find('listing').style.setProperty('--label', `${Math.min(longest, 24) + 1}ch`);
+  find('listing-lines').style.height = `${read.lines.length * LINE_HEIGHT}px`;
   find('listing').hidden = false;
   followListing();
   return true;
@@ -123,7 +124,6 @@ function buildLines() {
   const end = Math.min(lines.length, first + Math.ceil(area.clientHeight / LINE_HEIGHT) + 2 * SPARE);
   const focused = area.contains(document.activeElement) ? document.activeElement.closest('[data-line]')?.dataset.line : undefined;
   const list = find('listing-lines');
-  list.style.height = `${lines.length * LINE_HEIGHT}px`;
   list.style.paddingTop = `${first * LINE_HEIGHT}px`;
   list.replaceChildren(...lines.slice(first, end).map((line, i) => buildLine(line, first + i)));
   if (focused !== undefined) focusLine(Number(focused));

@@ -154,9 +154,17 @@ async function wrongPlaces(found, places) {
 function showQuantities(fault) {
   setText(find('quantities-fault'), fault);
   find('quantities').hidden = !quantities.rows.length;
-  find('quantity-rows').replaceChildren(...quantities.rows.map(({ name, unit }) => make('tr', { 'data-quantity': name },
-    make('th', { scope: 'row' }, name), make('td', { class: 'word' }), make('td', {}, unit))));
+  find('quantity-rows').replaceChildren(...quantities.rows.map((column) => make('tr', { 'data-quantity': column.name },
+    make('th', { scope: 'row' }, column.name), make('td', { class: 'word' }), make('td', {}, column.unit), make('td', {}, causeButton(column.name, placesOf(column))))));
   look();
+}
+
+// The places of a column's words, for the session's `cause`.
+function placesOf({ cells, first, count }) {
+  const [place] = cells.split(' ');
+  const at = cellNumber(place, placesByName(quantities.about));
+  if (at === null) return [`cell ${place}`]; // a register or a counter by its own name
+  return [...Array(count).keys()].map((i) => at + first + i).map((cell) => `cell E${cell >> 8},${octal(0o1400 + (cell % BANK_CELLS), 4)}`);
 }
 
 // The cells of all that is shown, each once.

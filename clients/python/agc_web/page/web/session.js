@@ -30,6 +30,10 @@ const session = {
   // the cycle at which the order before it began; or an `error`.
   find: (wanted) => post('find', wanted),
 
+  // Searches for what changed one of `places` last: "cell PLACE", "panel FIELD", "lamp NAME" or "write CCC" for a channel; the machine
+  // stays where it is. Returns the status, and `line`, the boundary as a trace has it, null if nothing has; or an `error`.
+  cause: (wanted) => post('cause', wanted),
+
   // Returns what the page compares before it shows the source: the text of a listing, and the bytes and the form of the rope.
   async source() {
     const response = await fetch('source');

@@ -102,6 +102,7 @@ function showNews(parts) {
   followGuide();
   followWhy();
   followListing();
+  followCause();
 }
 
 function showReached(is) {
@@ -186,6 +187,7 @@ function letGo() {
 
 function start() {
   buildFace();
+  buildCauses();
   buildInspector();
   buildWhy();
   buildListing();

@@ -44,7 +44,8 @@ async function orderBefore(other, cycle) {
   return cycle;
 }
 
-function checked(places) {
+// Returns places as the console reads them.
+export function checked(places) {
   if (!Array.isArray(places) || places.length < 1 || places.length > MOST_PLACES) throw new Fault(`places are 1 to ${MOST_PLACES}`);
   const texts = places.map((text) => String(text).trim().replace(/\s+/g, ' '));
   if (!texts.every((text) => /^[ -~]{1,80}$/.test(text))) throw new Fault('a place is a PLACE, `write CCC` or `cell PLACE`');

@@ -2,6 +2,7 @@
 //
 // The page posts {id, call, body} and gets {id, answer}; news come as {news: {part: value}}, only the parts that have changed.
 // The first call is `open`, or `film`, which needs no machine.
+import { cause } from './causes.js';
 import { doCommand, look } from './commands.js';
 import { Console } from './console.js';
 import { Ended, Fault } from './faults.js';
@@ -78,6 +79,7 @@ const CALLS = {
   do: async (body) => { await doCommand(machine, body); },
   look: (body) => look(machine, body),
   find: (body) => machine.inject((console) => find(console.cycle, () => another(machine.script()), body)),
+  cause: (body) => machine.inject((console) => cause(console, () => another(machine.script()), machine.script(), body)),
   script: () => ({ script: machine.script(), limit: machine.limit() }),
   views: async () => ({ views: await machine.pastViews() }),
   film: async ({ module, ...files }) => ({ film: await filmOf(module, files) }),
