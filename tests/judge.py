@@ -7,6 +7,7 @@ import atexit
 import os
 import shutil
 import signal
+import subprocess
 import sys
 import tempfile
 import time
@@ -18,11 +19,13 @@ NAME = Path(sys.argv[0]).resolve().parent.stem  # `film` for tests/film.d/tries.
 OWNER = os.getpid()
 AGC, STUDY, CONSOLE, DSKY = (os.environ.get(name, "") for name in ("AGC", "STUDY", "CONSOLE", "DSKY"))
 MOST_AGAIN = 3  # tries of a judge that are made again
+BESIDE = os.environ.pop("JUDGE_BESIDE", None)  # of a process that makes tries beside others: its pipes, see `beside`
 passed = failed = 0
 folders: list[str] = []
 missed: list[str] = []  # the checks that failed
 again = 0  # tries that may still be made again
 close_left = None
+next_tries, tries_again, counts = map(int, BESIDE.split()) if BESIDE else (-1, -1, -1)
 
 
 def check(what, holds):
@@ -61,18 +64,73 @@ def attempt(group, *words):
     """Makes a try: runs a function with checks. An exception that it does not catch is a failed check. In a judge that
     `depends_on_time`, a try that failed is made once more from the start. Its checks of the second time count, and a line says
     which failed the first time. Three tries at most are made again, so that a broken machine is not hidden."""
-    global passed, failed, again
+    global passed, failed
     before, standing = (passed, failed), {folder: set(os.listdir(folder)) for folder in folders}
     make(group, words)
-    if failed == before[1] or not again:
+    if failed == before[1] or not may_repeat():
         return
     since = "; ".join(missed[before[1]:])
     passed, failed = before
     del missed[failed:]
-    again -= 1
     clear(group, standing)
     make(group, words)
     print(f"{NAME}: made again: {group.__name__}, since: {' '.join(since.split()):.1000}", flush=True)
+
+
+def may_repeat():
+    """Whether one more try may be made again; counts it."""
+    global again
+    if not again or BESIDE and not os.read(tries_again, 1):
+        return False
+    again -= 1
+    return True
+
+
+def beside(tries, most):
+    """Yields tries, for a judge that makes them one after another. Those of a judge that mainly waits are made beside one another:
+    `most` processes run the judge's program once more, each with a folder of its own and this function, which yields there what no
+    other process has begun. Here nothing is left to yield then: the counts of the processes have been added."""
+    if BESIDE:
+        while number := os.read(next_tries, 1):
+            yield tries[number[0]]
+    elif min(most, len(tries)) > 1:
+        make_beside(len(tries), min(most, len(tries)))
+    else:
+        yield from tries
+
+
+def make_beside(count, most):
+    """Makes so many tries in so many processes, and adds what these have counted."""
+    global passed, failed
+    with tempfile.TemporaryFile() as counted:
+        given = [filled(bytes(range(count))), filled(bytes(again)), counted.fileno()]
+        more = {**os.environ, "JUDGE_BESIDE": " ".join(map(str, given))}
+        processes = [subprocess.Popen([sys.executable, *sys.argv], env=more, pass_fds=given) for _ in range(most)]
+        atexit.register(end_all, processes)
+        ends = [each.wait() for each in processes]
+        counted.seek(0)
+        found = [tuple(map(int, line.split())) for line in counted]
+    os.close(given[0])
+    os.close(given[1])
+    passed, failed = passed + sum(each[0] for each in found), failed + sum(each[1] for each in found)
+    if len(found) < most:
+        check(f"not all processes came to their end: {ends}", False)
+
+
+def filled(data):
+    """Returns the end of a pipe that has these bytes, and no more will come."""
+    end, other = os.pipe()
+    os.write(other, data)
+    os.close(other)
+    return end
+
+
+def end_all(processes):
+    """Ends the processes that still run."""
+    for each in processes:
+        if each.poll() is None:
+            each.terminate()
+            each.wait()
 
 
 def make(group, words):
@@ -135,6 +193,9 @@ def remove(folder):
 
 def finish():
     """Prints the last line, and ends the judge."""
+    if BESIDE:
+        os.write(counts, f"{passed} {failed}\n".encode())
+        sys.exit(0)
     print(f"{passed} passed, {failed} failed", flush=True)
     sys.exit(failed > 0 or passed == 0)
 
@@ -146,6 +207,8 @@ def end_by_signal(number, _):
     sys.exit(128 + number)
 
 
+for each_pipe in map(int, BESIDE.split() if BESIDE else ()):
+    os.set_inheritable(each_pipe, False)
 signal.signal(signal.SIGTERM, end_by_signal)
 if signal.getsignal(signal.SIGINT) == signal.SIG_IGN:
     # A script's command in the background ignores Control-C, and so would the programs that the judge starts and ends by it.

@@ -28,7 +28,7 @@ SECOND = example.SECOND
 FLIGHTS = int(os.environ.get("FLIGHTS", 36))
 FORCED = int(os.environ.get("FORCED", 4))
 ORBITS = int(os.environ.get("ORBITS", 4))
-JOBS = int(os.environ.get("JOBS", os.cpu_count() or 1))
+JOBS = int(os.environ.get("JOBS", len(os.sched_getaffinity(0))))
 
 
 def names():

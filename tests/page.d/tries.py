@@ -13,7 +13,6 @@ import os
 import re
 import shutil
 import subprocess
-import time
 import types
 import zlib
 
@@ -27,7 +26,7 @@ import randoms
 import source
 import twins
 from firefox import Firefox
-from judge import TOP, attempt, check, depends_on_time, finish, judge
+from judge import BESIDE, TOP, check, finish, judge
 from local import FILE, LocalPage, LocalSite, web
 from site_of import example, keys_in, wait
 
@@ -176,9 +175,11 @@ def try_firefox():
     page.close()
 
 
+# Those that take longest come first.
 TRIES = (
-    try_made, try_packed, try_session, try_example, web.try_changes, web.try_stop, web.try_sizes, try_words, try_old, *flights.TRIES, *twins.TRIES, *randoms.TRIES,
-    *opening.TRIES, *source.TRIES, *exercises.TRIES, *plotted.TRIES, *caused.TRIES, *(listing.TRIES if source.HAS_ASSEMBLER else ()),
+    *exercises.TRIES, *twins.TRIES, *flights.TRIES, *source.TRIES, *plotted.TRIES, *randoms.TRIES, *opening.TRIES, *caused.TRIES, web.try_sizes,
+    *(listing.TRIES if source.HAS_ASSEMBLER else ()), web.try_changes, web.try_stop, try_session, try_example, try_words, try_old,
+    try_made, try_packed,
 )
 
 
@@ -191,19 +192,11 @@ def close_left():
 
 
 def main():
-    depends_on_time(close_left)
-    chosen = os.environ.get('TRY')
     has_firefox = shutil.which('firefox-esr') is not None
-    if not has_firefox:
+    if not has_firefox and not BESIDE:
         print('skipped: the page in Firefox, because there is no firefox-esr')
         judge('Firefox is there in CI', False, os.environ.get('CI') == 'true')
-    for each in (*TRIES, *[try_firefox] * has_firefox):
-        if chosen and each.__name__ not in chosen.split(','):
-            continue
-        began = time.monotonic()
-        attempt(each)
-        web.figure(f'seconds of {each.__name__}', round(time.monotonic() - began, 1))
-        close_left()
+    web.make_all((*[try_firefox] * has_firefox, *TRIES), close_left)
     finish()
 
 

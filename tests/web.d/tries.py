@@ -24,7 +24,7 @@ from agc import Console, Refused
 from agc_web.server import Server
 from agc_web.session import KEYS, Session, Unable
 from dsky import KEYS as KEY_PACKETS, Dsky
-from judge import AGC, CONSOLE, TOP, attempt, check, depends_on_time, finish, judge, near, scratch_folder, slowness, soon
+from judge import AGC, CONSOLE, TOP, attempt, beside, check, depends_on_time, finish, judge, near, scratch_folder, slowness, soon
 from site_of import LONGEST, Site, example, free_ports, keys_in, started, wait
 from window import Window
 import buttons
@@ -48,6 +48,7 @@ import whys
 HERE = os.path.dirname(os.path.abspath(__file__))
 FOLDER, BROWSER = scratch_folder(), os.environ['BROWSER']
 PICTURES, FIGURES = os.environ.get('PICTURES'), os.environ.get('FIGURES')
+AT_ONCE = int(os.environ.get('AT_ONCE', 2))  # tries: most of their time they wait
 A_SECOND = 1024000 / 12  # cycles
 TENTH = 8533
 SIZE = (1000, 700)
@@ -1544,13 +1545,14 @@ def picture(page, name):
         page.window.picture(os.path.join(PICTURES, name + '.png'))
 
 
+# Those that take longest come first.
 TRIES = (
+    *buttons.TRIES, *guides.TRIES, *listed.TRIES, *filmed.TRIES, *whys.TRIES, *storms.TRIES, *views.TRIES, try_install, try_pace,
     try_session, try_changes, try_pro, try_keys_rope, try_many_cells, try_sizes, try_policy, try_ports, try_refusals, try_port,
-    try_pace, try_writes, try_views, try_look, try_rate, try_latency, try_killed, try_end, try_blanks, try_two, try_command,
+    try_writes, try_views, try_look, try_rate, try_latency, try_killed, try_end, try_blanks, try_two, try_command,
     try_serve, try_gone, try_hangup, try_lander, try_late_view, try_names_and_pictures, try_stop, try_random, try_face,
-    try_client, try_install, *ends.TRIES, *rooms.TRIES, *times.TRIES, *views.TRIES, *buttons.TRIES, *filmed.TRIES, *found.TRIES,
-    *guides.TRIES, *whys.TRIES, *listens.TRIES, *listed.TRIES, *looks.TRIES, *quantities.TRIES, *nouns.TRIES, *storms.TRIES,
-    *timelines.TRIES, *causes.TRIES,
+    try_client, *ends.TRIES, *rooms.TRIES, *times.TRIES, *found.TRIES, *listens.TRIES, *looks.TRIES, *quantities.TRIES,
+    *nouns.TRIES, *timelines.TRIES, *causes.TRIES,
 )
 
 
@@ -1561,16 +1563,19 @@ def close_left():
     Site.kill_all()
 
 
-def main():
-    depends_on_time(close_left)
+def make_all(tries, close):
+    """Makes the tries, or those that TRY names, AT_ONCE beside one another. `close` ends what one of them has left."""
+    depends_on_time(close)
     chosen = os.environ.get('TRY')
-    for each in TRIES:
-        if chosen and each.__name__ not in chosen.split(','):
-            continue
+    for each in beside([each for each in tries if not chosen or each.__name__ in chosen.split(',')], AT_ONCE):
         began = time.monotonic()
         attempt(each)
         figure(f'seconds of {each.__name__}', round(time.monotonic() - began, 1))
-        close_left()
+        close()
+
+
+def main():
+    make_all(TRIES, close_left)
     finish()
 
 
