@@ -14,6 +14,7 @@ def last_cause(console: Console, script: str, texts: Sequence[str]) -> Optional[
     """Returns the line of the boundary, as a trace has it, that changed one of these last: `cell PLACE`, `panel FIELD`, a line of the
     panel, `lamp NAME`, or `write CCC`, which an order has written or an event has set. None if nothing has."""
     with second(console, script) as other:
+        other.quiet()
         found = [line for line in (_cause(other, console, script, text) for text in texts) if line is not None]
         return max(found, key=lambda line: int(line.split(" ", 1)[0])) if found else None
 

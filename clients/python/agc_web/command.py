@@ -4,11 +4,11 @@ import argparse
 import errno
 import os
 import socket
-import sys
 import threading
 import webbrowser
 from base64 import b64encode
 from contextlib import suppress
+from functools import partial
 from typing import Any, Callable, Dict, List, Optional, Sequence, Tuple
 
 import agc
@@ -16,13 +16,14 @@ from agc_web.beside import LONGEST, Beside, opened, reason, texts_of
 from agc_web.ending import UNSAVED, Ending
 from agc_web.film import Films
 from agc_web.journal import Repeat
-from agc_web.saving import ScriptFile, print_out, save_or_print, study
+from agc_web.saving import ScriptFile, print_out, save_or_print, say, study
 from agc_web.server import HERE, Server, is_reachable
 from agc_web.session import Session
 
 PORT = 8437
 MOST_NAMES = 5000  # that the page offers
 SAVED, REFUSED = 0, 1  # statuses; UNSAVED is the third
+_say = partial(say, "agc-web")
 
 
 def serve(
@@ -102,12 +103,6 @@ def main(words: Optional[List[str]] = None) -> int:
     except KeyboardInterrupt:  # before there was a session, or after it was saved
         pass
     return SAVED
-
-
-def _say(text: str) -> None:
-    """Says something to the user in the terminal."""
-    with suppress(OSError):  # a full disk, if that is a file
-        print(f"agc-web: {text}", file=sys.stderr)
 
 
 def _arguments() -> argparse.ArgumentParser:

@@ -15,7 +15,6 @@ import os
 import selectors
 import socket
 import sys
-import tempfile
 import threading
 import time
 from collections import deque
@@ -25,9 +24,10 @@ from typing import Callable, Deque, Dict, List, NamedTuple, Optional, Tuple
 
 from agc import LAST_CYCLE, Console, Ended, Error, Refused, Write
 from agc_web import protocol
-from agc_web.ending import Ending
+from agc_web.ending import UNSAVED, Ending
 from agc_web.protocol import Board, Fault, Inexpressible, Packet, PacketReader
-from agc_web.saving import ScriptFile, save_or_print
+from agc_web.saving import ScriptFile, save_or_print, say
+from agc_web.searcher import second
 from agc_web.server import HERE, is_reachable
 from agc_web.session import KEY_GAP, SPEEDS, Session, Unable
 
@@ -49,7 +49,8 @@ LINES_A_SECOND = 100
 PRESSES = {protocol.KEYBOARD: ("key ", "raise 5"), protocol.SECOND_KEYBOARD: ("raise 6",)}
 """How the commands begin by which a key of a keyboard goes down."""
 
-SAVED, REFUSED, UNSAVED = 0, 1, 3  # statuses
+SAVED, REFUSED = 0, 1  # statuses; UNSAVED is the third
+_say = partial(say, "instruments")
 
 
 class Log:
@@ -247,14 +248,11 @@ class Desk:
         """Returns what is shown at a cycle, by another run of a script; None if there is none."""
         board = Board()
         try:
-            with tempfile.NamedTemporaryFile("w", suffix=".script") as file:
-                file.write(script)
-                file.flush()
-                with self._session.console.again(file.name) as other:
-                    while other.cycle < cycle and other.stop is None:
-                        for write in other.go_to(min(cycle, other.cycle + PIECE)):
-                            board.note(write.channel, write.value)
-        except (Error, OSError) as error:
+            with second(self._session.console, script) as other:
+                while other.cycle < cycle and other.stop is None:
+                    for write in other.go_to(min(cycle, other.cycle + PIECE)):
+                        board.note(write.channel, write.value)
+        except Error as error:
             self._log(f"the display is not up to date: {error}")
             return None
         return board
@@ -539,12 +537,6 @@ def _keep(session: Session, asked: argparse.Namespace, file: Optional[ScriptFile
         _say(f"{error.filename}: {error.strerror}: here is the script" if file else f"{error.filename}: {error.strerror}")
         return UNSAVED
     return SAVED
-
-
-def _say(text: str) -> None:
-    """Prints a line on standard error, which may be a file on a full disk."""
-    with suppress(OSError):
-        print(f"instruments: {text}", file=sys.stderr, flush=True)
 
 
 def _arguments() -> argparse.ArgumentParser:

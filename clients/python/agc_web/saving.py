@@ -90,16 +90,26 @@ def print_out(text: str) -> None:
         raise OSError(error.errno or 0, error.strerror or str(error), "standard output") from None
 
 
+def say(program: str, text: str) -> None:
+    """Says something to the user in the terminal, which may be a file on a full disk."""
+    with contextlib.suppress(OSError):
+        print(f"{program}: {text}", file=sys.stderr, flush=True)
+
+
 def shell_agc() -> str:
-    """Returns how the shell here starts the program agc: the one in the folder of the client, two levels up, or the one on
-    the path."""
-    beside = os.path.normpath(os.path.join(os.path.dirname(os.path.realpath(agc.__file__)), "..", "..", "agc"))
-    if not os.access(beside, os.X_OK):
+    """Returns how the shell here starts the program agc."""
+    path = _beside("agc")
+    if path is None:
         return "agc"
-    return "./agc" if os.path.exists("agc") and os.path.samefile("agc", beside) else shlex.quote(beside)
+    return "./agc" if os.path.exists("agc") and os.path.samefile("agc", path) else shlex.quote(path)
 
 
 def study() -> Optional[str]:
-    """Returns the program agc-study: the one in the folder of the client, two levels up, or the one on the path."""
-    beside = os.path.join(os.path.dirname(os.path.realpath(agc.__file__)), "..", "..", "agc-study")
-    return os.path.normpath(beside) if os.access(beside, os.X_OK) else shutil.which("agc-study")
+    """Returns the program agc-study, if it is there."""
+    return _beside("agc-study") or shutil.which("agc-study")
+
+
+def _beside(name: str) -> Optional[str]:
+    """Returns a program in the folder of the client, two levels up; None if only the path may have it."""
+    path = os.path.normpath(os.path.join(os.path.dirname(os.path.realpath(agc.__file__)), "..", "..", name))
+    return path if os.access(path, os.X_OK) else None

@@ -22,6 +22,7 @@ def last_hit(console: Console, script: str, before: int, texts: Sequence[str]) -
     """Returns the last boundary before a cycle that hits one of these, in the words of the console's `back until`; None if
     there is none. Raises `Refused` if one of them is no place."""
     with second(console, script) as other:
+        other.quiet()
         hits = [_hit(other, before, text) for text in texts]
         cycles = [cycle for cycle in hits if cycle is not None]
         return _found(other, before, max(cycles)) if cycles else None
@@ -36,7 +37,6 @@ def second(console: Console, script: str) -> Iterator[Console]:
             with open(path, "w", encoding="ascii") as file:
                 file.write(script)
             with console.again(path) as other:
-                other.quiet()
                 yield other
     except OSError as error:
         raise Ended(f"no script for a second console: {error.strerror or error}", None) from None

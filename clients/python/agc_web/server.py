@@ -282,13 +282,9 @@ class Handler(BaseHTTPRequestHandler):
 
     def _send(self, body: bytes, kind: str, status: HTTPStatus = HTTPStatus.OK, **more: str) -> None:
         """Sends an answer."""
-        self._send_head(kind, status, **{"Content_Length": str(len(body)), **more})
-        self._send_bytes(body)
-
-    def _send_head(self, kind: str, status: HTTPStatus, **more: str) -> None:
         self.connection.settimeout(PATIENCE)
         headers = {
-            "Content-Type": kind, "Cache-Control": "no-store",
+            "Content-Type": kind, "Content-Length": str(len(body)), "Cache-Control": "no-store",
             "Content-Security-Policy": self.server.policy(self._address),
             "Referrer-Policy": "no-referrer", "X-Content-Type-Options": "nosniff", "X-Frame-Options": "DENY",
             "Cross-Origin-Resource-Policy": "same-origin", "Cross-Origin-Opener-Policy": "same-origin",
@@ -300,6 +296,7 @@ class Handler(BaseHTTPRequestHandler):
         for name, value in headers.items():
             self.send_header(name, value)
         self.end_headers()
+        self._send_bytes(body)
 
     def _send_json(self, value: Any, status: HTTPStatus = HTTPStatus.OK) -> None:
         try:
