@@ -1,7 +1,8 @@
-"""What caused this, in agc.html: tests/web's cases, with and without a listing."""
+"""What caused this, and steps by calls, in agc.html: tests/web's cases."""
 import os
 
 import causes
+import stepped
 from judge import judge
 from listed import woven
 from listing import dropped, text_of
@@ -32,4 +33,13 @@ def try_cause_line():
     page.close()
 
 
-TRIES = (try_causes, try_cause_line)
+def try_steps():
+    """Step, Over and Finish, and back."""
+    rope = os.path.join(stepped.folder_of(), 'rope')
+    page = LocalPage(LocalSite(rope))
+    stepped.of_steps(page.window, rope)
+    judge('errors of the page', [], page.window.errors())
+    page.close()
+
+
+TRIES = (try_causes, try_cause_line, try_steps)

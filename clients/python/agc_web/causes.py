@@ -2,12 +2,11 @@
 
 from typing import List, Optional, Sequence
 
-from agc import Console, Refused
+from agc import Console
 from agc_web.clock import CYCLES_A_SECOND
-from agc_web.searcher import second
+from agc_web.searcher import MOST_BOUNDARIES, is_back, second, stand_at
 
 INPUTS = {"key": 0o15, "pro": 0o32}  # the channels that events set, beside `input`
-MOST_BOUNDARIES = 1000  # of one cycle, or from the first boundary of a cycle to the one that is looked for
 
 
 def last_cause(console: Console, script: str, texts: Sequence[str]) -> Optional[str]:
@@ -21,36 +20,16 @@ def last_cause(console: Console, script: str, texts: Sequence[str]) -> Optional[
 
 def _cause(other: Console, console: Console, script: str, text: str) -> Optional[str]:
     kind, _, rest = text.partition(" ")
-    _stand_beside(other, console)
+    stand_at(other, console.cycle, console.next())
     if kind == "cell":
-        return _changed(other, rest) if _is_back(other, text) else None
+        return _changed(other, rest) if is_back(other, f"until {text}") else None
     if kind == "write":
         events = _events(other, script)
-        order = _written(other) if _is_back(other, text) else None
+        order = _written(other) if is_back(other, f"until {text}") else None
         return _event(events, int(rest, 8), int(order.split(" ", 1)[0]) if order else -1) or order
     if kind not in ("panel", "lamp"):
         raise ValueError("a cause is that of `cell PLACE`, `write CCC`, `panel FIELD` or `lamp NAME`")
     return _written(other) if _is_before_change(other, kind, rest) else None
-
-
-def _stand_beside(other: Console, console: Console) -> None:
-    """Takes a second console to where the first one stands, also between two boundaries of one cycle."""
-    if other.cycle > console.cycle:
-        other.back(console.cycle)
-    other.go_to(console.cycle)
-    wanted = f"{console.cycle} {console.next()}"
-    other.step(next((i for i, line in enumerate(other.ahead(MOST_BOUNDARIES)) if line.startswith(wanted)), 0))
-
-
-def _is_back(other: Console, text: str) -> bool:
-    """Goes back to the last boundary that hits, in the words of `back until`, and returns whether there is one."""
-    try:
-        other.say(f"back until {text}")
-    except Refused as refused:
-        if refused.name == "NotHit":
-            return False
-        raise
-    return True
 
 
 def _changed(other: Console, place: str) -> Optional[str]:

@@ -3,12 +3,12 @@
 import os
 import tempfile
 from contextlib import contextmanager
-from typing import Iterator, List, NamedTuple, Optional, Sequence
+from typing import Iterator, List, NamedTuple, Optional, Sequence, Tuple
 
 from agc import Console, Ended, Refused
 
 MOST_PLACES = 8  # of one search
-FARTHEST = 1000  # boundaries back to an order; between two there are events, timers and interrupts
+MOST_BOUNDARIES = 1000  # of one cycle, or from a boundary to the order that is looked for: between there are events, timers, interrupts
 
 
 class Found(NamedTuple):
@@ -45,20 +45,49 @@ def second(console: Console, script: str) -> Iterator[Console]:
 def _hit(other: Console, before: int, text: str) -> Optional[int]:
     """Returns the cycle of the last hit of one place."""
     other.go_to(before)
+    return other.cycle if is_back(other, f"until {text}") else None
+
+
+def is_back(other: Console, way: str) -> bool:
+    """Goes back in one of the ways of `back`, and returns whether there is anything."""
     try:
-        other.say(f"back until {text}")
+        other.say(f"back {way}")
     except Refused as refused:
         if refused.name == "NotHit":
-            return None
+            return False
         raise
-    return other.cycle
+    return True
+
+
+def stand_at(other: Console, cycle: int, comes: str) -> None:
+    """Takes a second console to a cycle, and to the one of its boundaries that comes."""
+    if other.cycle > cycle:
+        other.back(cycle)
+    other.go_to(cycle)
+    lines = other.ahead(MOST_BOUNDARIES)
+    other.step(next((i for i, line in enumerate(lines) if line.startswith(f"{cycle} {comes}")), 0))
+
+
+def end_of(console: Console, script: str, cycle: int, comes: str, command: str) -> Tuple[bool, int]:
+    """Returns whether a command such as `over`, given at a cycle where this boundary comes, gets to its end, and the cycle then."""
+    with second(console, script) as other:
+        other.quiet()
+        stand_at(other, cycle, comes)
+        return "came yes" in other.say(command).lines, other.cycle
+
+
+def step_back(console: Console, script: str, way: str) -> Optional[int]:
+    """Returns the cycle to which `back step`, `back over` or `back finish` goes from here; None if there is none."""
+    with second(console, script) as other:
+        stand_at(other, console.cycle, console.next())
+        return other.cycle if is_back(other, way) else None
 
 
 def _found(other: Console, before: int, cycle: int) -> Found:
     """Goes back from a hit to the order before it."""
     other.go_to(before)
     other.back(cycle)
-    for _ in range(FARTHEST):
+    for _ in range(MOST_BOUNDARIES):
         if not other.back_step():
             break
         if not other.next().startswith("- "):

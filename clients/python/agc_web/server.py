@@ -472,6 +472,8 @@ COMMANDS: Dict[str, Callable[[Server, Dict[str, Any]], None]] = {
     "pause": lambda server, body: server.session.pause(),
     "speed": lambda server, body: server.session.set_speed(item(body, "times", int)),
     "step": lambda server, body: server.session.step(),
+    "over": lambda server, body: server.session.step_by_call("over"),
+    "finish": lambda server, body: server.session.step_by_call("finish"),
     "go": lambda server, body: server.session.go_there(item(body, "cycle", int), is_sure(body)),
     "back": lambda server, body: server.session.go_back_to_change(is_sure(body)),
     "undo": lambda server, body: server.session.undo(is_sure(body)),
@@ -525,7 +527,11 @@ def texts_of(body: Dict[str, Any]) -> List[str]:
 
 
 def found_before(session: Session, body: Dict[str, Any]) -> Dict[str, int]:
-    """Returns where the last boundary was that hit one of these places, before a cycle if the body has one."""
+    """Returns where the last boundary was that hit one of these places, before a cycle if the body has one; or where a step back goes."""
+    if "step" in body:
+        if body["step"] not in ("step", "over", "finish"):
+            raise ValueError("a step is step, over or finish")
+        return {"cycle": session.find_step(body["step"])}
     places, before = texts_of(body), body.get("before")
     if before is not None and type(before) is not int:
         raise ValueError("before is a cycle")

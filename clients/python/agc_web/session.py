@@ -12,7 +12,7 @@ import functools
 import re
 import time
 from collections import deque
-from typing import Any, Callable, Deque, List, NamedTuple, Optional, Sequence, TypeVar, Union, cast
+from typing import Any, Callable, Deque, List, NamedTuple, Optional, Sequence, Tuple, TypeVar, Union, cast
 
 from agc import EVENTS, Answer, Console, Ended, Refused, Write
 from agc_web.breakpoints import Breakpoints
@@ -22,13 +22,15 @@ from agc_web.journal import Event, Journal, Repeat
 from agc_web.keyboard import KEY_GAP, KEYS, Keyboard
 from agc_web.news import News
 from agc_web.rewinder import HISTORY, WARM_UP, Rewinder
-from agc_web.searcher import Found, checked, checked_place, last_hit
+from agc_web.searcher import Found, checked, checked_place, end_of, last_hit, step_back
 from agc_web.ticks import Control, Mark, Past, Ticker, View
 from agc_web.worker import Unable, Worker
 
 __all__ = ["HISTORY", "KEYS", "KEY_GAP", "NEWS", "SPEEDS", "Session", "Sure", "Unable"]
 
 AHEAD = 12  # coming boundaries that are shown
+LONGEST_STEP = 1_000_000  # cycles that `over` and `finish` may take
+PRIORITY = 11  # the word of a core set that tells jobs apart
 MOST_BREAKPOINTS = 8
 MOST_WAITING = 100  # keys
 WAKE = 0.01  # seconds between two pieces
@@ -323,6 +325,62 @@ class Session:
         self._rewinder.history.extend(self.console.step())
         self.furthest = max(self.furthest, self.console.cycle)
         self._look()
+
+    @_on_machine
+    def step_by_call(self, way: str) -> None:
+        """Goes on by `over` or `finish`, as the console has them; time stops. Keys that wait go on waiting. If instruments tick on the way,
+        it goes on farther and farther until the script shows the end, and back to there."""
+        self._want_machine()
+        if self.playing:
+            self.pause()
+        self.hit = self.trouble = ""
+        self._press_due()
+        self._ticker.tick_due(self.console)
+        cycle, comes = self.console.cycle, self.console.next()
+        length = min([LONGEST_STEP, *(tick - cycle for tick in self._ticker.next_cycles())])
+        came, end = self._end_of(way, cycle, comes, length)
+        while not came and length < LONGEST_STEP and self.console.stop is None:
+            length = min(LONGEST_STEP, 4 * length)
+            self._run_to(cycle + length)
+            came, end = self._end_of(way, cycle, comes, length)
+        self._come_to(end)
+        if not came:
+            self.trouble = f"{way} did not come to its end in {LONGEST_STEP:,} cycles"
+        self._look()
+
+    def _end_of(self, way: str, cycle: int, comes: str, length: int) -> Tuple[bool, int]:
+        """Returns whether a step that was begun at a cycle has ended within so many cycles, as far as the script goes, and the cycle then."""
+        return end_of(self.console, self.script(), cycle, comes, f"{way}{self._job()} within {length}")
+
+    def _come_to(self, cycle: int) -> None:
+        """Goes on to a cycle, or back to it, which no undo brings back."""
+        if cycle < self.console.cycle:
+            waiting = list(self._keyboard.waiting)
+            self._go_back(cycle, True)
+            self._keyboard.waiting.extend(waiting)
+            self._undo.pop()
+        else:
+            self._run_to(cycle)
+            self._rewinder.go_to(self.console.cycle, self.journal.events)
+            self._show_rewound()
+        self.furthest = max(self.furthest, self.console.cycle)
+
+    def _job(self) -> str:
+        """Returns the words after `over` and `finish` that tell the Executive's jobs apart, if its tables are known."""
+        if self.watch is None:
+            return ""
+        bank, offset = (int(number, 8) for number in self.watch.split(",")[:2])
+        bank, offset = divmod(0o400 * bank + offset + PRIORITY, 0o400)
+        return f" job E{bank},{0o1400 + offset:o}"
+
+    @_on_machine
+    def find_step(self, way: str) -> int:
+        """Returns the cycle to which the console's `back step`, `back over` or `back finish` goes from here; the machine stays where it is."""
+        self._want_console()
+        cycle = step_back(self.console, self.script(), way if way == "step" else way + self._job())
+        if cycle is None:
+            raise Unable("nothing comes before this" if way == "step" else "there is no call to go back to")
+        return cycle
 
     def _want_console(self) -> None:
         if self.ended is not None:

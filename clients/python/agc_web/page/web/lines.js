@@ -261,7 +261,20 @@ async function goExactly(cycle) {
   return await ask('go', { cycle }) && (now.cycle >= cycle || ask('go', { cycle }));
 }
 
+// Goes back by a boundary, over a call, or to the call of the routine.
+async function stepBack(way) {
+  if (now.playing && !await ask('pause')) return;
+  const found = await request(() => session.find({ step: way }));
+  if (!found) return;
+  showFault(found.error || '');
+  if (found.status === 200) await goExactly(found.cycle);
+}
+
 function buildListing() {
+  for (const button of find('listing-steps').children) {
+    const { by, from } = button.dataset;
+    button.addEventListener('click', () => (by ? ask(by) : stepBack(from)));
+  }
   find('listing').addEventListener('scroll', buildLines);
   find('listing').addEventListener('keydown', moveLine);
   find('listing').addEventListener('pointerover', pointAt);

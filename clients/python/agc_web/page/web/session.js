@@ -30,6 +30,8 @@ const session = {
   // the cycle at which the order before it began; or an `error`.
   find: (wanted) => post('find', wanted),
 
+  // The same for {step: 'step'}, or 'over' or 'finish', the console's ways back by boundaries and calls: returns the `cycle`.
+
   // Searches for what changed one of `places` last: "cell PLACE", "panel FIELD", "lamp NAME" or "write CCC" for a channel; the machine
   // stays where it is. Returns the status, and `line`, the boundary as a trace has it, null if nothing has; or an `error`.
   cause: (wanted) => post('cause', wanted),

@@ -1,11 +1,10 @@
 // What changed this last: the order, or what else, that gave a cell, a channel, a field or a lamp of the panel what it has now. It is
 // agc_web/causes.py in JavaScript.
 import { CYCLES_A_SECOND } from './clock.js';
-import { Fault, Refused } from './faults.js';
-import { checked } from './searcher.js';
+import { Fault } from './faults.js';
+import { MOST_BOUNDARIES, checked, isBack, standAt } from './searcher.js';
 
 const INPUTS = { key: 0o15, pro: 0o32 }; // the channels that events set, beside `input`
-const MOST_BOUNDARIES = 1000; // of one cycle, or from the first boundary of a cycle to the one that is looked for
 
 const cycleOf = (line) => Number(line.split(' ', 1)[0]);
 const isWrite = (line) => line.split(' | ')[0].includes(' > ');
@@ -29,11 +28,11 @@ export async function cause(console, start, script, { places }) {
 async function causeOf(other, console, script, text) {
   const [kind, ...words] = text.split(' ');
   const rest = words.join(' ');
-  await standBeside(other, console);
-  if (kind === 'cell') return await isBack(other, text) ? changed(other, rest) : null;
+  await standAt(other, console.cycle, await console.next());
+  if (kind === 'cell') return await isBack(other, `until ${text}`) ? changed(other, rest) : null;
   if (kind === 'write') {
     const events = await eventsOf(other, script);
-    const order = await isBack(other, text) ? await boundaryThat(other, isWrite) : null;
+    const order = await isBack(other, `until ${text}`) ? await boundaryThat(other, isWrite) : null;
     return eventOn(events, parseInt(rest, 8), order === null ? -1 : cycleOf(order)) ?? order;
   }
   if (kind !== 'panel' && kind !== 'lamp') throw new Fault('a cause is that of `cell PLACE`, `write CCC`, `panel FIELD` or `lamp NAME`');
@@ -41,27 +40,6 @@ async function causeOf(other, console, script, text) {
 }
 
 const linesOf = async (console, command) => (await console.say(command)).lines;
-
-// Takes a second console to where the first one stands, also between two boundaries of one cycle.
-async function standBeside(other, console) {
-  if (other.cycle > console.cycle) await other.back(console.cycle);
-  await other.goTo(console.cycle);
-  const [next] = await linesOf(console, 'next');
-  const wanted = `${console.cycle} ${next.slice('next '.length)}`;
-  const coming = await linesOf(other, `ahead ${MOST_BOUNDARIES}`);
-  await other.step(Math.max(0, coming.findIndex((line) => line.startsWith(wanted))));
-}
-
-// Goes back to the last boundary that hits, in the words of `back until`, and returns whether there is one.
-async function isBack(other, text) {
-  try {
-    await other.say(`back until ${text}`);
-  } catch (error) {
-    if (error instanceof Refused && error.fault === 'NotHit') return false;
-    throw error;
-  }
-  return true;
-}
 
 // Goes on to the first boundary for which this holds, and returns its line.
 async function boundaryThat(other, holds) {

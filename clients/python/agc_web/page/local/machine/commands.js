@@ -29,6 +29,8 @@ const COMMANDS = {
   pause: (machine) => machine.pause(),
   speed: (machine, body) => machine.setSpeed(item(body, 'times', 'number')),
   step: (machine) => machine.step(),
+  over: (machine) => machine.stepByCall('over'),
+  finish: (machine) => machine.stepByCall('finish'),
   go: (machine, body) => machine.goThere(whole(item(body, 'cycle', 'number')), body.sure === true),
   back: (machine, body) => machine.goBackToChange(body.sure === true),
   undo: (machine, body) => machine.undo(body.sure === true),

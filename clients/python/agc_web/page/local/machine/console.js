@@ -69,6 +69,11 @@ export class Console {
     return (await this.say(`step ${boundaries}`)).lines;
   }
 
+  // Returns what comes next, as a trace has it.
+  async next() {
+    return (await this.say('next')).lines[0].slice('next '.length);
+  }
+
   back(cycle) {
     return this.say(`back ${cycle}`);
   }

@@ -9,11 +9,14 @@ import { Ended, Refused, Sure, Unable } from './faults.js';
 import { Journal } from './journal.js';
 import { KEYS, Keyboard, MOST_WAITING } from './keyboard.js';
 import { HISTORY, Rewinder, WARM_UP } from './rewinder.js';
+import { endOf } from './searcher.js';
 import { Ticker } from './ticks.js';
 
 const WAKE = 8; // milliseconds between two pieces
 const NEWS = 0.02; // seconds between two looks at least
 const AT_ONCE = 500; // events that the console gets in one text
+const LONGEST_STEP = 1000000; // cycles that `over` and `finish` may take
+const PRIORITY = 11; // the word of a core set that tells jobs apart
 
 export class Machine {
   playing = false;
@@ -23,6 +26,7 @@ export class Machine {
   furthest = 0;
   #console;
   #watch;
+  #another;
   #news;
   #journal;
   #clock = new Clock();
@@ -38,10 +42,11 @@ export class Machine {
   #turn = Promise.resolve();
 
   // Takes over a console at its beginning, with the lines of the script that it began with, and the tables' SPEC or null. `news` is called
-  // with a part's name and its value.
-  constructor(console, { base, watch, instruments, news }) {
+  // with a part's name and its value; `another` starts another console with a script.
+  constructor(console, { base, watch, instruments, news, another }) {
     this.#console = console;
     this.#watch = watch;
+    this.#another = another;
     this.#news = news;
     this.#journal = new Journal(base);
     this.#breakpoints = new Breakpoints(console);
@@ -89,6 +94,7 @@ export class Machine {
   pause = () => this.call(() => this.#pause());
   setSpeed = (times) => this.call(() => this.#setSpeed(times));
   step = () => this.call(() => this.#stepOnce());
+  stepByCall = (way) => this.call(() => this.#stepByCall(way));
   goThere = (cycle, sure) => this.call(() => this.#goThere(cycle, sure));
   goBackToChange = (sure) => this.call(() => this.#goBackToChange(sure));
   undo = (sure) => this.call(() => this.#takeBack(sure));
@@ -302,6 +308,49 @@ export class Machine {
     this.#rewinder.keep(await this.#console.step());
     this.furthest = Math.max(this.furthest, this.#console.cycle);
     await this.#look();
+  }
+
+  // Goes on by `over` or `finish`, as the console has them; time stops. Keys that wait go on waiting. If instruments tick on the way, it
+  // goes on farther and farther until the script shows the end, and back to there.
+  async #stepByCall(way) {
+    this.#wantMachine();
+    if (this.playing) await this.#pause();
+    this.hit = '';
+    this.trouble = '';
+    await this.#pressDue();
+    await this.#tickAndSay(() => []);
+    const [{ cycle }, comes, { waiting }] = [this.#console, await this.#console.next(), this.#keyboard];
+    this.#keyboard.waiting = [];
+    let length = Math.min(LONGEST_STEP, ...this.#ticker.nextCycles().map((tick) => tick - cycle));
+    const endNow = () => endOf(() => this.#another(this.script()), cycle, comes, `${way}${this.job()} within ${length}`);
+    let { came, end } = await endNow();
+    while (!came && length < LONGEST_STEP && this.#console.stop === null) {
+      length = Math.min(LONGEST_STEP, 4 * length);
+      await this.#goAhead(cycle + length);
+      ({ came, end } = await endNow());
+    }
+    await this.#comeTo(end);
+    this.#keyboard.waiting = waiting;
+    if (!came) this.trouble = `${way} did not come to its end in ${LONGEST_STEP.toLocaleString('en')} cycles`;
+    await this.#look();
+  }
+
+  // Goes on to a cycle, or back to it, which no undo brings back.
+  async #comeTo(cycle) {
+    if (cycle < this.#console.cycle) {
+      await this.#goBack(cycle, true);
+      this.#undo.pop();
+    }
+    if (this.#console.cycle < cycle) await this.#goAhead(cycle);
+    this.furthest = Math.max(this.furthest, this.#console.cycle);
+  }
+
+  // The words after `over` and `finish` that tell the Executive's jobs apart, if its tables are known.
+  job() {
+    if (this.#watch === null) return '';
+    const [bank, offset] = this.#watch.split(',').map((number) => parseInt(number, 8));
+    const cell = 0o400 * bank + offset + PRIORITY;
+    return ` job E${cell >> 8},${(0o1400 + (cell % 0o400)).toString(8)}`;
   }
 
   #wantConsole() {

@@ -5,11 +5,11 @@
 import { cause } from './causes.js';
 import { doCommand, look } from './commands.js';
 import { Console } from './console.js';
-import { Ended, Fault } from './faults.js';
+import { Ended, Fault, Unable } from './faults.js';
 import { filmOf } from './film.js';
 import { makeInstruments } from './instruments.js';
 import { Machine } from './machine.js';
-import { find } from './searcher.js';
+import { find, stepBack } from './searcher.js';
 
 let machine = null;
 let another = null; // starts another console of the same rope, with a script
@@ -60,7 +60,7 @@ async function open({ module, title, guide, quantities, nouns, listing, instrume
   const { console, names, watch, notes } = await start(module, files);
   another = (script) => Console.start(module, { ...files, names, script });
   const base = (await console.say('script')).lines;
-  machine = new Machine(console, { base, watch, instruments: makeInstruments(instrument, options), news: publish });
+  machine = new Machine(console, { base, watch, instruments: makeInstruments(instrument, options), news: publish, another });
   if (kept) await machine.resume(kept);
   const found = placesIn(names);
   publish('about', { rope: title, names: found.map(([, name]) => name), places: found.map(([place]) => place), watch, guide, quantities, nouns, listing });
@@ -74,11 +74,18 @@ function placesIn(text) {
   return words.filter(([place, name]) => name && !/^[#C]/.test(place)).slice(0, 5000);
 }
 
+async function findStep(console, way) {
+  if (!['step', 'over', 'finish'].includes(way)) throw new Fault('a step is step, over or finish');
+  const cycle = await stepBack(console, () => another(machine.script()), way === 'step' ? way : way + machine.job());
+  if (cycle === null) throw new Unable(way === 'step' ? 'nothing comes before this' : 'there is no call to go back to');
+  return { cycle };
+}
+
 const CALLS = {
   open,
   do: async (body) => { await doCommand(machine, body); },
   look: (body) => look(machine, body),
-  find: (body) => machine.inject((console) => find(console.cycle, () => another(machine.script()), body)),
+  find: (body) => machine.inject((console) => (body.step ? findStep(console, body.step) : find(console.cycle, () => another(machine.script()), body))),
   cause: (body) => machine.inject((console) => cause(console, () => another(machine.script()), machine.script(), body)),
   script: () => ({ script: machine.script(), limit: machine.limit() }),
   views: async () => ({ views: await machine.pastViews() }),
