@@ -53,6 +53,10 @@ LAMPS = {
     "ISS": (12, 6, 1),
 }
 
+# The colours of a digit and of lamps that are on, cautions and others, or off, as sequences and as letters of a picture.
+GREEN, WHITE, YELLOW, DIM = "1;32", "30;47", "30;43", "2"
+INKS = {"": " ", GREEN: "g", WHITE: "W", YELLOW: "Y", DIM: "d"}
+
 SEQUENCE = re.compile(r"\x1b\[(\??[0-9;]*)([A-Za-z])")
 BEGUN_SEQUENCE = re.compile(r"\x1b(\[\??[0-9;]*)?\Z")
 
@@ -158,6 +162,10 @@ class Screen:
     def text(self):
         return "\n".join(self.row(y).rstrip() for y in range(self.lines))
 
+    def colour_text(self):
+        """The colours of all places, a letter each."""
+        return visible(([letter for letter, _ in row] for row in self.cells), ([colour for _, colour in row] for row in self.cells))
+
     def colours_at(self, y, x, width):
         """The colours of some places of a line."""
         return {colour for _, colour in self.cells[y][x : x + width]}
@@ -227,6 +235,15 @@ class Screen:
     def cycle(self):
         found = re.search(r"(?m)^ CYCLE (\d+)(?: STOP \w+)?$", self.text())
         return int(found[1]) if found else None
+
+
+def visible(rows, colours):
+    """Lines of colours, a letter for each place. One without a background is not seen where no letter is."""
+    lines = []
+    for letters, row in zip(rows, colours):
+        inks = [" " if letter == " " and colour in (GREEN, DIM) else INKS.get(colour, "!") for letter, colour in zip(letters, row)]
+        lines.append("".join(inks).rstrip())
+    return "\n".join(lines)
 
 
 def decoded(data):

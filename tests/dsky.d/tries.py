@@ -19,8 +19,10 @@ import termios
 import time
 
 from judge import AGC, DSKY, STUDY, TOP, attempt, depends_on_time, finish, judge, scratch_folder, slowness, soon
-from painter import KEYS, LONG_HINT, SHORT_HINT, below, painted
-from screen import LAMPS, Screen
+import pictures
+from painter import CAUTIONS, KEYS, LONG_HINT, SHORT_HINT, below, painted
+from pictures import LARGE, SMALL
+from screen import DIM, GREEN, LAMPS, WHITE, YELLOW, Screen
 
 dsky, agc, study, top, scratch = DSKY, AGC, STUDY, TOP, scratch_folder()
 
@@ -30,14 +32,11 @@ FIELDS = ("PROG", "VERB", "NOUN", "R1", "R2", "R3")
 SPACING = 8533
 PRO_HELD = 17067
 HOUR = 307_200_000
-LARGE, SMALL = (24, 80), (14, 60)
 # The kilobytes of stack that README says are enough.
 STACK = 256
 NAMES = {"v": "VERB", "n": "NOUN", "c": "CLR", "k": "KEYREL", "r": "RSET", "\r": "ENTR", **{key: key for key in "0123456789+-"}}
-WHITE, CAUTION, UNLIT, GREEN = "30;47", "30;43", "2", "1;32"
 # The programs agc and agc-study that the last lines name: beside the one that was started.
 AGAIN, FILM = (os.path.join(os.path.dirname(dsky), name) for name in ("agc", "agc-study"))
-CAUTIONS = {"TEMP", "GIMBAL LOCK", "PROG", "TRACKER", "ALT", "VEL"}
 
 
 class Late(Exception):
@@ -347,18 +346,21 @@ def relays(plus, minus, *registers):
 BY_KEY = [relay(10, 0, "16"), relay(9, 0, "_8"), relay(9, 0, "68"), relay(11, 0, "37"), relay(7, 0, "9?"), relay(12, 0, "__")]
 
 
+ROW_12 = 12 << 11
+# The relay words of pictures.ALL and pictures.NONE.
+FIRST = [relay(11, 0, "01"), relay(10, 0, "23"), relay(9, 0, "45"), *relays((1,), (2,), "67890", "12345", "?8_79")]
+SECOND = [relay(11, 0, "98"), relay(10, 0, "76"), relay(9, 0, "54"), *relays((3,), (1,), "3_210", "_____", "24680")]
+
+
 def faces():
     """Ropes that show each digit and sign and light each lamp, some by the lamps' row and some by channel 11."""
-    row_12 = 12 << 11
-    first = [relay(11, 0, "01"), relay(10, 0, "23"), relay(9, 0, "45"), *relays((1,), (2,), "67890", "12345", "?8_79")]
-    second = [relay(11, 0, "98"), relay(10, 0, "76"), relay(9, 0, "54"), *relays((3,), (1,), "3_210", "_____", "24680")]
-    keys = BY_KEY + [row_12 | 0o674]
+    keys = BY_KEY + [ROW_12 | 0o674]
     return [
-        ("all lamps", a_rope("all", [*first, row_12 | 0o674], 0o137, keys), "v16n6"),
-        ("the flash", a_rope("flash", [*first, row_12 | 0o054], 0o042, keys), "v16"),
-        ("other digits", a_rope("other", [*second, row_12 | 0o600], 0o121, keys), "n"),
-        ("no lamps", a_rope("none", second, 0o040, []), "p"),
-        ("each key", a_rope("each", first, 0o014, keys), "v16n68\r"),
+        ("all lamps", a_rope("all", [*FIRST, ROW_12 | 0o674], 0o137, keys), "v16n6"),
+        ("the flash", a_rope("flash", [*FIRST, ROW_12 | 0o054], 0o042, keys), "v16"),
+        ("other digits", a_rope("other", [*SECOND, ROW_12 | 0o600], 0o121, keys), "n"),
+        ("no lamps", a_rope("none", SECOND, 0o040, []), "p"),
+        ("each key", a_rope("each", FIRST, 0o014, keys), "v16n68\r"),
     ]
 
 
@@ -381,7 +383,7 @@ def try_face(name, rope, typed, size):
         judge(f"{name}: the picture's size", size == LARGE, terminal.screen.is_large())
         shows(name, terminal, panel_of(rope, script, cycle))
         for lamp in LAMPS:
-            colour = UNLIT if lamp not in terminal.screen.lamps() else CAUTION if lamp in CAUTIONS else WHITE
+            colour = DIM if lamp not in terminal.screen.lamps() else YELLOW if lamp in CAUTIONS else WHITE
             judge(f"{name}: the colour of {lamp}", {colour}, terminal.screen.lamp_colours(lamp))
         y, x = (8, 34) if size == LARGE else (4, 33)
         judge(f"{name}: the colour of digits", {GREEN}, terminal.screen.colours_at(y, x, 5))
@@ -391,6 +393,87 @@ def try_face(name, rope, typed, size):
         wanted += f"as a film: {FILM} film {rope} {save} --limit {cycle} > film.html\n"
         judge(f"{name}: what is printed", wanted, text)
         judge(f"{name}: the file at the end", script, read(save))
+    finally:
+        terminal.close()
+
+
+def is_picture(terminal, name, is_coloured=True):
+    """The whole screen of a session becomes a stored picture, with its colours."""
+    wanted = read(os.path.join(pictures.FOLDER, name))
+    wanted = wanted if is_coloured else wanted[:wanted.index(pictures.COLOURS)]
+    shown = []
+
+    def look(screen):
+        shown[:] = [pictures.stored_text(screen) if is_coloured else f"{screen.text()}\n"]
+        return shown[0] == wanted
+
+    try:
+        terminal.until("", look)
+    except Late:
+        pass
+    judge(f"the picture {name}", wanted.split("\n"), shown[0].split("\n"))
+    judge(f"the picture {name}: sequences", [], terminal.screen.faults)
+
+
+def woven(name, listing):
+    """A rope of this listing."""
+    made = subprocess.run([study, "weave", written(f"{name}.words", listing)], capture_output=True)
+    judge(f"the rope {name}", (0, b""), (made.returncode, made.stderr))
+    path = os.path.join(scratch, f"{name}.rope")
+    with open(path, "wb") as file:
+        file.write(made.stdout)
+    return path
+
+
+def try_pictures():
+    """Whole screens against the stored pictures, which painter.py draws: all digits, signs and lamps in both sizes, with and
+    without colour, in both halves of the flash; the inspector, the tables, a search, a key, a terminal too small."""
+    for name, picture in pictures.pictures().items():
+        judge(f"what is painted is stored as {name}", pictures.stored_text(picture), read(os.path.join(pictures.FOLDER, name)))
+    judge("no other picture is stored", sorted(pictures.pictures()), sorted(os.listdir(pictures.FOLDER)))
+    lit = a_rope("lit", [*FIRST, ROW_12 | 0o674], 0o177, [])
+    none = a_rope("unlit", SECOND, 0, [])
+    half = a_rope("half", [*SECOND, ROW_12 | 0o270], 0o012, [])
+    sends = woven("pictured", SENDS)
+    names = written("pictured.names", "4000 START\n5000 SEND\n5005 IDLE\n")
+    pokes = written("pokes", "".join(f"0 poke 0 {place:o} {word:o}\n" for place, word in pictures.POKES))
+    last = ["--limit", "11", "--names", names]
+    stops = ["--limit", "100000"]
+    sessions = [(["tables"], [sends, pokes, *last, "--watch", pictures.WATCH], pictures.HIGH, "t", True)]
+    sessions += [(["inspector"], [sends, *last], LARGE, "i", True), (["no-room"], [sends, *last], SMALL, "i", True)]
+    for size, name in ((LARGE, "large"), (SMALL, "small")):
+        sessions += [([f"half-{name}"], [half, *stops], size, "", True), ([f"none-{name}"], [none, *stops], size, "", True)]
+        sessions += [([f"all-{name}", f"all-{name}-dark"], [lit, *stops], size, "", is_coloured) for is_coloured in (True, False)]
+    for shown, words, size, typed, is_coloured in sessions:
+        terminal = Terminal([*words, "--speed", "max"], size, **({} if is_coloured else {"NO_COLOR": "1"}))
+        try:
+            terminal.begun()
+            terminal.until("no stop", lambda screen: " STOP Limit" in screen.text())
+            terminal.type(typed + " ")
+            for name in shown:
+                is_picture(terminal, name, is_coloured)
+                judge(f"the picture {name}: lines that have no room", 0, terminal.screen.overruns)
+            judge(f"the picture {name}: is it in colour", is_coloured, bool(terminal.screen.colours))
+            judge(f"the picture {name}: the end", (0, True), (terminal.quit()[0], terminal.is_put_back()))
+        finally:
+            terminal.close()
+    try_moving_pictures(sends)
+
+
+def try_moving_pictures(rope):
+    """The pictures of a search that found something, of a key that was pressed just now, and of terminals without room."""
+    terminal = Terminal([rope, "--limit", "844807", "--speed", "max"])
+    try:
+        terminal.begun()
+        terminal.until("no stop", lambda screen: " CYCLE 844807 STOP Limit" in screen.text())
+        terminal.type("D")
+        is_picture(terminal, "found")
+        terminal.type("v35")
+        is_picture(terminal, "key")
+        for size, name in (((13, 80), "too-small"), ((24, 57), "too-narrow")):
+            terminal.resize(*size)
+            is_picture(terminal, name)
+        judge("the picture of a key: the end", (0, True), (terminal.quit()[0], terminal.is_put_back()))
     finally:
         terminal.close()
 
@@ -783,7 +866,7 @@ def try_ink():
         terminal = Terminal([KEYS_ROPE], **value)
         try:
             terminal.begun()
-            judge(f"colour {value}", {GREEN, UNLIT, "0"}, terminal.screen.colours)
+            judge(f"colour {value}", {GREEN, DIM, "0"}, terminal.screen.colours)
             terminal.quit()
         finally:
             terminal.close()
@@ -1467,7 +1550,7 @@ def try_idleness():
 
 
 GROUPS = (
-    try_unsaved, try_saving, try_marks, try_waiting_keys, try_fastest, try_remarks, try_full_disk, try_two_sessions,
+    try_pictures, try_unsaved, try_saving, try_marks, try_waiting_keys, try_fastest, try_remarks, try_full_disk, try_two_sessions,
     try_little_memory, try_last_keys, try_told_names, try_leaving, try_ink, try_no_terminal, try_resizing, try_script,
     try_refusals, try_many_keys, try_going_back, try_a_long_way_back, try_boundaries, try_start, try_speeds,
     try_slow_speeds, try_names_and_counts, try_searches, try_long_search, try_ending_a_search_back, try_small_stack,

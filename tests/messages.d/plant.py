@@ -26,13 +26,13 @@ PREBUILT = Path("prebuilt", "x86_64-linux")
 CRATES = {
     "agc-study": "agc_text agc_analysis agc_check agc_study_args agc_study_cli agc_asm agc_symbols agc_cli agc_load",
     "agc-console": "agc_repl agc_console",
-    "agc-dsky": "agc_tui agc_dsky",
+    "agc-dsky": "agc_tui agc_dsky agc_panel",
     "agc": "agc_load agc_cli",
 }
 JUDGES = {
     "agc-study": ["tests/listings", "tests/weave"],
     "agc-console": ["examples/console/run"],
-    "agc-dsky": ["tests/dsky try_marks try_waiting_keys try_fastest", "tests/dsky try_faces"],
+    "agc-dsky": ["tests/dsky try_pictures", "tests/dsky try_marks try_waiting_keys try_fastest", "tests/dsky try_faces"],
     "agc": ["examples/run", "tests/replay"],
 }
 # More judges, for texts that they have themselves.
