@@ -1,18 +1,14 @@
 -- The lines of a history: a one-order idle loop is one line, with the count of its boundaries.
 use Rattle.std.specs.Prelude.{ℕ, zero, suc, ◌+◌, ◌-◌, ◌^◌, ◌==◌, ◌&&◌, ◌||◌, nat_le, nat_lt, length, take}
-use Rattle.std.specs.Prelude.{Bool, true, false, if◌then◌else◌, List, [], ◌∷◌, ◌++◌, codes, flat_map}
+use Rattle.std.specs.Prelude.{Bool, true, false, if◌then◌else◌, List, [], ◌∷◌, ◌++◌, flat_map}
 use Rattle.std.specs.Prelude.{Option, Some, None}
-use Rattle.std.specs.Fmt.{decimal}
 use Rattle.circular_buffer.specs.Buffer.{last_item}
 use Rattle.agc_word.specs.declared.channel_write.ChannelWrite.{ChannelWrite}
 use Rattle.agc_listing.specs.Cell.{same_sign, same_word}
 use Rattle.agc_machine.specs.declared.upcoming.InHand.{InHand}
 use Rattle.agc_machine.specs.declared.upcoming.Upcoming.{Upcoming}
 use Rattle.agc_machine.specs.declared.upcoming.Upcoming.TheVariants as upcoming
-use Rattle.agc_symbols.specs.Symbols.{Symbol}
 use Rattle.agc_trace.specs.Entry.{FitsLine}
-use Rattle.agc_trace.specs.Line.{happening_text, registers_text}
-use Rattle.agc_trace.specs.NamedLine.{line_with, named_happening}
 use Rattle.agc_trace.specs.declared.entry.Entry.{Entry}
 use Rattle.agc_trace.specs.declared.entry.Registers.{Registers}
 use Rattle.agc_tui.specs.declared.fold.Line.{Line}
@@ -112,20 +108,3 @@ folded_onto lines (entry ∷ entries) = folded_onto (added entry lines) entries
 -- the lines of boundaries
 abbrev pub folded : List Entry → List Line
 folded entries = folded_onto [] entries
-
--- what happened, with the name of an order's place if there are names
-abbrev pub happening_with : Option (List Symbol) → Upcoming → List ℕ
-happening_with (Some names) happening = named_happening names happening
-happening_with None happening = happening_text happening
-
--- several boundaries on one line: the last one's cycle, the order and the count
-unfoldable pub counted_line : Option (List Symbol) → Line → List ℕ
-counted_line names line =
-    decimal line.last.cycle ++ codes " " ++ happening_with names line.last.happening
-    ++ codes " x " ++ decimal line.count ++ codes " | " ++ registers_text line.last.registers
-    ++ codes "\n"
-
--- a line of the inspector: one boundary as in a trace, or several with their count
-unfoldable pub history_line : Option (List Symbol) → Line → List ℕ
-history_line names line =
-    codes " " ++ (if line.count == 1 then line_with names line.last else counted_line names line)

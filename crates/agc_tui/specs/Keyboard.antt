@@ -1,8 +1,6 @@
--- The keyboard: which byte types which key, the event of each key, and the layout of the keys in the picture.
-use Rattle.std.specs.Prelude.{ℕ, ◌==◌, Bool, true, false, if◌then◌else◌, List, [], ◌∷◌, ◌++◌, codes, find}
-use Rattle.std.specs.Prelude.{Option, Some, None}
-use Rattle.std.specs.Option.{option_map_or, option_map}
-use Rattle.std.specs.Str.{bytes_eq}
+-- The keyboard: which byte types which key, and the event and the name of each key.
+use Rattle.std.specs.Prelude.{ℕ, ◌==◌, Bool, true, List, [], ◌∷◌, codes, find, Option}
+use Rattle.std.specs.Option.{option_map}
 use Rattle.agc_script.specs.Key.{name_of}
 use Rattle.agc_script.specs.declared.event.What.{What}
 use Rattle.agc_script.specs.declared.event.What.TheVariants as what
@@ -39,37 +37,3 @@ press_of button.Pro = what.Pro true
 abbrev pub cap_name : Button → List ℕ
 cap_name (button.Coded which) = name_of which
 cap_name button.Pro = codes "PRO"
-
--- whether a key is the lit one
-abbrev pub is_pressed : Option Button → Button → Bool
-is_pressed pressed which = option_map_or (λ lit. bytes_eq (cap_name lit) (cap_name which)) pressed false
-
--- a key in its place: in brackets if it is lit, else between spaces
-unfoldable pub key_cell : Option Button → Button → List ℕ
-key_cell pressed which =
-    if is_pressed pressed which then codes "[" ++ cap_name which ++ codes "]"
-    else codes " " ++ cap_name which ++ codes " "
-
--- The three lines of the keyboard.
-unfoldable pub upper_keys : Option Button → List ℕ
-upper_keys pressed =
-    codes " " ++ key_cell pressed (button.Coded key.Verb) ++ key_cell pressed (button.Coded key.Plus)
-    ++ key_cell pressed (button.Coded key.Seven) ++ key_cell pressed (button.Coded key.Eight)
-    ++ key_cell pressed (button.Coded key.Nine) ++ key_cell pressed (button.Coded key.Clear)
-    ++ codes "   " ++ key_cell pressed (button.Coded key.Enter) ++ codes "\n"
-
-unfoldable pub middle_keys : Option Button → List ℕ
-middle_keys pressed =
-    codes " " ++ key_cell pressed (button.Coded key.Noun) ++ key_cell pressed (button.Coded key.Minus)
-    ++ key_cell pressed (button.Coded key.Four) ++ key_cell pressed (button.Coded key.Five)
-    ++ key_cell pressed (button.Coded key.Six) ++ key_cell pressed button.Pro
-    ++ codes "   " ++ key_cell pressed (button.Coded key.Reset) ++ codes "\n"
-
-unfoldable pub lower_keys : Option Button → List ℕ
-lower_keys pressed =
-    codes "       " ++ key_cell pressed (button.Coded key.Zero) ++ key_cell pressed (button.Coded key.One)
-    ++ key_cell pressed (button.Coded key.Two) ++ key_cell pressed (button.Coded key.Three)
-    ++ key_cell pressed (button.Coded key.KeyRelease) ++ codes "\n"
-
-abbrev pub keyboard : Option Button → List ℕ
-keyboard pressed = upper_keys pressed ++ middle_keys pressed ++ lower_keys pressed

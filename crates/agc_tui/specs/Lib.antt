@@ -1,12 +1,7 @@
-pub mod Color
-pub mod Segment
-pub mod Lamps
-pub mod Face
+pub mod Flash
 pub mod Keyboard
-pub mod Picture
 pub mod Pace
 pub mod Fold
 pub mod History
-pub mod Inspector
 pub mod Search
 pub mod Operator

@@ -1,15 +1,10 @@
 //! The lines of a history: a one-order idle loop is one line, with the count of its boundaries.
-ghost use Rattle.std.specs.Prelude.{◌≡◌, ◌≤◌, ◌++◌, IfSome, IsTrue, None, OnOk, Some, if◌then◌else◌, string_bytes};
+ghost use Rattle.std.specs.Prelude.{◌≡◌, ◌≤◌, IfSome, IsTrue, None, Some, if◌then◌else◌};
 ghost use Rattle.agc_listing.specs.Cell.{same_word};
-ghost use Rattle.agc_machine.specs.Boundary.{HasPlace};
-ghost use Rattle.agc_trace.specs.Entry.{FitsLine};
 ghost use Rattle.agc_tui.specs.Fold.{
   again,
   alone,
-  counted_line,
   counts_up,
-  happening_with,
-  history_line,
   is_quiet,
   repeats,
   same_happening,
@@ -18,12 +13,8 @@ ghost use Rattle.agc_tui.specs.Fold.{
 };
 
 use agc_machine::{InHand, Upcoming};
-use agc_symbols::SymbolTable;
-use agc_trace::{
-    Entry, Registers, push_happening, push_line_with, push_named_happening, push_registers,
-};
+use agc_trace::{Entry, Registers};
 use agc_word::{ChannelWrite, Narrow, Wide};
-use std::alloc::AllocError;
 
 /// A line of the history: one boundary, or the equal ones of an idle loop.
 #[derive(Clone, Copy, Debug, PartialEq, Eq)]
@@ -154,59 +145,4 @@ fn is_quiet(write: Option<ChannelWrite>) -> bool
     ensures { result ≡ is_quiet write }
 {
     write.is_none()
-}
-
-/// Adds a line of the inspector: one boundary as in a trace, or several with their count.
-#[tactic(auto, unfolding(crate::specs::Fold::history_line))]
-pub(crate) fn push_history_line(
-    text: &mut String,
-    names: &Option<SymbolTable>,
-    line: &Line,
-) -> Result<(), AllocError>
-    requires { FitsLine line.now.last }
-    ensures { OnOk result (string_bytes text.new
-        ≡ string_bytes text.old ++ history_line names.now line.now) }
-{
-    text.push_str(" ")?;
-    if line.count == 1 {
-        push_line_with(text, names, &line.last)
-    } else {
-        push_counted(text, names, line)
-    }
-}
-
-/// Adds several boundaries on one line: the last one's cycle, the order and the count.
-#[tactic(auto, unfolding(crate::specs::Fold::counted_line))]
-fn push_counted(
-    text: &mut String,
-    names: &Option<SymbolTable>,
-    line: &Line,
-) -> Result<(), AllocError>
-    requires { FitsLine line.now.last }
-    ensures { OnOk result (string_bytes text.new
-        ≡ string_bytes text.old ++ counted_line names.now line.now) }
-{
-    let cycle = line.last.cycle;
-    let count = line.count;
-    write!(text, "{cycle} ")?;
-    push_happening_with(text, names, line.last.happening)?;
-    write!(text, " x {count} | ")?;
-    push_registers(text, line.last.registers)?;
-    text.push_str("\n")
-}
-
-/// Adds what happened, with the name of an order's place if there are names.
-fn push_happening_with(
-    text: &mut String,
-    names: &Option<SymbolTable>,
-    happening: Upcoming,
-) -> Result<(), AllocError>
-    requires { HasPlace happening }
-    ensures { OnOk result (string_bytes text.new
-        ≡ string_bytes text.old ++ happening_with names.now happening) }
-{
-    match names {
-        Some(names) => push_named_happening(text, names, happening),
-        None => push_happening(text, happening),
-    }
 }

@@ -1,18 +1,17 @@
 //! Records the last boundaries of a session, as trace entries in folded lines.
-ghost use Rattle.std.specs.Prelude.{◌≡◌, ◌==◌, ◌++◌, ◌∷◌, ◌-◌, take, [], All, IfOk, IfSome, OnOk, OnErr, None, flat_map, length, option_copied, string_bytes};
+ghost use Rattle.std.specs.Prelude.{◌≡◌, ◌==◌, ◌++◌, ◌∷◌, ◌-◌, take, [], All, IfOk, IfSome, OnOk, OnErr, None, length, option_copied};
 ghost use Rattle.circular_buffer.specs.Buffer.{buffer, keep_last};
 ghost use Rattle.agc_script.specs.Event.{IsWhatInRange};
 ghost use Rattle.agc_machine.specs.Boundary.{boundary};
 ghost use Rattle.agc_session.specs.Session.{HasGone, injected_now};
 ghost use Rattle.agc_trace.specs.Entry.{FitsLine, entry_of, write_shown};
-ghost use Rattle.agc_tui.specs.Fold.{Fits, added, counted_up, history_line};
+ghost use Rattle.agc_tui.specs.Fold.{Fits, added, counted_up};
 ghost use Rattle.agc_tui.specs.History.{given_entry, with_last};
 
-use crate::fold::{Line, push_history_line};
+use crate::fold::Line;
 use agc_machine::{Stepped, Upcoming};
 use agc_script::What;
 use agc_session::{InjectFault, Session};
-use agc_symbols::SymbolTable;
 use agc_trace::{Entry, registers_in, write_shown};
 use circular_buffer::HeapCircularBuffer;
 use std::alloc::{AllocError, Global};
@@ -109,20 +108,12 @@ impl History {
         self.lines.is_empty()
     }
 
-    /// Adds the last lines, `most` at most, with the names of places if there are any. Fails if memory runs out.
-    pub(crate) fn push_last(
-        &self,
-        alloc: Global,
-        text: &mut String,
-        names: &Option<SymbolTable>,
-        most: usize,
-    ) -> Result<(), AllocError>
-        ensures { OnOk result (string_bytes text.new
-            ≡ string_bytes text.old ++ flat_map (history_line names.now) (keep_last most self.now)) }
+    /// Returns the lines. Fails if memory runs out.
+    pub(crate) fn lines(&self, alloc: Global) -> Result<Vec<Line>, AllocError>
+        ensures lines { IfOk result (λ lines. lines.items ≡ self.now) }
+        ensures fit { IfOk result (λ lines. All Fits lines.items) }
     {
-        let lines = self.lines.to_vec(alloc)?;
-        let first = lines.len().saturating_sub(most);
-        push_lines(text, names, &lines[first..])
+        self.lines.to_vec(alloc)
     }
 }
 
@@ -178,20 +169,4 @@ fn event_in(happening: &Upcoming) -> Option<What> {
         Upcoming::Event(what) => Some(*what),
         _ => None,
     }
-}
-
-/// Adds these lines, with the names of places if there are any.
-fn push_lines(
-    text: &mut String,
-    names: &Option<SymbolTable>,
-    lines: &[Line],
-) -> Result<(), AllocError>
-    requires { All Fits lines.now }
-    ensures { OnOk result (string_bytes text.new
-        ≡ string_bytes text.old ++ flat_map (history_line names.now) lines.now) }
-{
-    for line in lines {
-        push_history_line(text, names, line)?;
-    }
-    Ok(())
 }

@@ -1,20 +1,9 @@
-//! The keyboard: which byte types which key, the event of each key, and the layout of the keys in the picture.
-ghost use Rattle.std.specs.Prelude.{◌≡◌, ◌++◌, OnOk, string_bytes};
+//! The keyboard: which byte types which key, and the event and the name of each key.
+ghost use Rattle.std.specs.Prelude.{◌≡◌};
 ghost use Rattle.agc_script.specs.Event.{IsWhatInRange};
-ghost use Rattle.agc_tui.specs.Keyboard.{
-  cap_name,
-  is_pressed,
-  key_cell,
-  keyboard,
-  lower_keys,
-  middle_keys,
-  press_of,
-  from_byte,
-  upper_keys,
-};
+ghost use Rattle.agc_tui.specs.Keyboard.{cap_name, press_of, from_byte};
 
 use agc_script::{Key, What};
-use std::alloc::AllocError;
 
 /// A key of the DSKY.
 #[derive(Clone, Copy, Debug, PartialEq, Eq)]
@@ -78,80 +67,4 @@ impl Button {
             Button::Pro => "PRO",
         }
     }
-
-    /// Returns whether this is the lit key.
-    fn is_among(self, pressed: Option<Button>) -> bool
-        ensures { result ≡ is_pressed pressed self }
-    {
-        match pressed {
-            Some(lit) => lit.name() == self.name(),
-            None => false,
-        }
-    }
-}
-
-#[tactic(auto, unfolding(crate::specs::Keyboard::key_cell))]
-fn push_key(text: &mut String, pressed: Option<Button>, button: Button) -> Result<(), AllocError>
-    ensures { OnOk result (string_bytes text.new ≡ string_bytes text.old ++ key_cell pressed button) }
-{
-    let name = button.name();
-    if button.is_among(pressed) {
-        write!(text, "[{name}]")
-    } else {
-        write!(text, " {name} ")
-    }
-}
-
-#[tactic(auto, unfolding(crate::specs::Keyboard::upper_keys))]
-fn push_upper_keys(text: &mut String, pressed: Option<Button>) -> Result<(), AllocError>
-    ensures { OnOk result (string_bytes text.new ≡ string_bytes text.old ++ upper_keys pressed) }
-{
-    text.push_str(" ")?;
-    push_key(text, pressed, Button::Coded(Key::Verb))?;
-    push_key(text, pressed, Button::Coded(Key::Plus))?;
-    push_key(text, pressed, Button::Coded(Key::Seven))?;
-    push_key(text, pressed, Button::Coded(Key::Eight))?;
-    push_key(text, pressed, Button::Coded(Key::Nine))?;
-    push_key(text, pressed, Button::Coded(Key::Clear))?;
-    text.push_str("   ")?;
-    push_key(text, pressed, Button::Coded(Key::Enter))?;
-    text.push_str("\n")
-}
-
-#[tactic(auto, unfolding(crate::specs::Keyboard::middle_keys))]
-fn push_middle_keys(text: &mut String, pressed: Option<Button>) -> Result<(), AllocError>
-    ensures { OnOk result (string_bytes text.new ≡ string_bytes text.old ++ middle_keys pressed) }
-{
-    text.push_str(" ")?;
-    push_key(text, pressed, Button::Coded(Key::Noun))?;
-    push_key(text, pressed, Button::Coded(Key::Minus))?;
-    push_key(text, pressed, Button::Coded(Key::Four))?;
-    push_key(text, pressed, Button::Coded(Key::Five))?;
-    push_key(text, pressed, Button::Coded(Key::Six))?;
-    push_key(text, pressed, Button::Pro)?;
-    text.push_str("   ")?;
-    push_key(text, pressed, Button::Coded(Key::Reset))?;
-    text.push_str("\n")
-}
-
-#[tactic(auto, unfolding(crate::specs::Keyboard::lower_keys))]
-fn push_lower_keys(text: &mut String, pressed: Option<Button>) -> Result<(), AllocError>
-    ensures { OnOk result (string_bytes text.new ≡ string_bytes text.old ++ lower_keys pressed) }
-{
-    text.push_str("       ")?;
-    push_key(text, pressed, Button::Coded(Key::Zero))?;
-    push_key(text, pressed, Button::Coded(Key::One))?;
-    push_key(text, pressed, Button::Coded(Key::Two))?;
-    push_key(text, pressed, Button::Coded(Key::Three))?;
-    push_key(text, pressed, Button::Coded(Key::KeyRelease))?;
-    text.push_str("\n")
-}
-
-/// Adds the three lines of the keyboard; a lit key is in brackets.
-pub(crate) fn push_keyboard(text: &mut String, pressed: Option<Button>) -> Result<(), AllocError>
-    ensures { OnOk result (string_bytes text.new ≡ string_bytes text.old ++ keyboard pressed) }
-{
-    push_upper_keys(text, pressed)?;
-    push_middle_keys(text, pressed)?;
-    push_lower_keys(text, pressed)
 }

@@ -1,10 +1,6 @@
-//! Formats the inspector (last boundaries, registers, what comes next) and the Executive's tables.
-ghost use Rattle.std.specs.Prelude.{◌≡◌, ◌++◌, OnOk, string_bytes};
-ghost use Rattle.agc_panel.specs.Watcher.{watch_text};
-ghost use Rattle.agc_tui.specs.Inspector.{inspector, state_lines};
-
+//! Prints the inspector (last boundaries, registers, what comes next) and the Executive's tables.
+use super::history::push_lines;
 use crate::history::History;
-use agc_machine::Machine;
 use agc_panel::{WatchSpec, watch};
 use agc_session::Session;
 use agc_symbols::SymbolTable;
@@ -20,24 +16,11 @@ pub fn push_inspector(
     history: &History,
     most: usize,
     session: &Session,
-) -> Result<(), AllocError>
-    ensures { OnOk result (string_bytes text.new
-        ≡ string_bytes text.old ++ inspector names.now most history.now session.now.now) }
-{
-    history.push_last(alloc, text, names, most)?;
-    push_state(text, names, session.machine())
-}
-
-/// Adds the registers, and what comes next.
-#[tactic(auto, unfolding(crate::specs::Inspector::state_lines))]
-fn push_state(
-    text: &mut String,
-    names: &Option<SymbolTable>,
-    machine: &Machine,
-) -> Result<(), AllocError>
-    ensures { OnOk result (string_bytes text.new
-        ≡ string_bytes text.old ++ state_lines names.now machine.now) }
-{
+) -> Result<(), AllocError> {
+    let lines = history.lines(alloc)?;
+    let first = lines.len().saturating_sub(most);
+    push_lines(text, names, &lines[first..])?;
+    let machine = session.machine();
     text.push_str(" ")?;
     push_registers_line(text, machine.store())?;
     text.push_str(" ")?;
@@ -51,10 +34,7 @@ pub fn push_tables(
     text: &mut String,
     session: &Session,
     spec: WatchSpec,
-) -> Result<(), AllocError>
-    ensures { OnOk result (string_bytes text.new
-        ≡ string_bytes text.old ++ watch_text session.now.now.processor.store spec) }
-{
+) -> Result<(), AllocError> {
     match watch(alloc, session.machine().store(), &spec) {
         Ok(tables) => text.push_str(&tables),
         Err(_) => Err(AllocError),
