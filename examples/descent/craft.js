@@ -30,6 +30,9 @@ const EXHAUST = 3050; // m/s
 const PULSE = 0.0585; // m/s, of an accelerometer,
 const COARSE = 0.468; // and in its coarse range, for a script has no room for more pulses
 const FASTEST = { [PIPAX]: 32, [PIPAZ]: 32, [CDUY]: 64 }; // pulses that an instrument sends in a hundredth of a second at most
+const DOWNLINK = 10; // hundredths of a second from one interrupt of the downlink to the next: at first,
+const SPARING = 100; // and from so many
+const MANY = 48000; // events of the craft on, for a script has no room for more
 const RADIAN = PI / 180;
 const DEGREE = 32768 / 360; // pulses of CDUY
 const TURNING = 4 * RADIAN; // what a jet brings each second, in radians a second
@@ -84,6 +87,7 @@ export class Craft {
     this.lost = null; // the second since which the landing radar is lost
     this.counted = { [PIPAX]: 0, [PIPAZ]: 0 };
     this.sent = { [PIPAX]: 0, [PIPAZ]: 0, [CDUY]: this.angle() };
+    this.events = 0; // that the computer got from the craft
   }
 
   angle() {
@@ -198,6 +202,7 @@ export class Craft {
     for (const [counter, value] of now) {
       const more = Math.max(-FASTEST[counter], Math.min(FASTEST[counter], value - this.sent[counter]));
       this.sent[counter] += more;
+      this.events += Math.abs(more);
       const kind = (counter === CDUY ? ['pcdu', 'mcdu'] : ['pinc', 'minc'])[more < 0 ? 1 : 0];
       for (let n = 0; n < Math.abs(more); n += 1) agc.pulse(counter, kind);
     }
@@ -257,12 +262,16 @@ function report(agc, craft, step) {
   if (word !== null) {
     agc.poke(0, RNRAD, word);
     agc.raise(RADARUPT);
+    craft.events += 2;
   }
   if (!craft.contact && craft.height <= LEG) {
     craft.contact = true;
     agc.input(CONTACT, 0o37577);
   }
-  if (step % 10 === 0) agc.raise(DOWNRUPT);
+  if (step % (craft.events < MANY ? DOWNLINK : SPARING) === 0) {
+    agc.raise(DOWNRUPT);
+    craft.events += 1;
+  }
 }
 
 // The orbit that ends an abort, or nothing.

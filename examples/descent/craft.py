@@ -40,6 +40,8 @@ EXHAUST = 3050.0  # m/s
 PULSE = 0.0585  # m/s, of an accelerometer,
 COARSE = 0.468  # and in its coarse range, for a script has no room for more pulses
 FASTEST = {PIPAX: 32, PIPAZ: 32, CDUY: 64}  # pulses that an instrument sends in a hundredth of a second at most
+DOWNLINK, SPARING = 10, 100  # hundredths of a second from one interrupt of the downlink to the next: at first, and from so many
+MANY = 48000  # events of the craft on, for a script has no room for more
 RADIAN = 3.141592653589793 / 180
 DEGREE = 32768 / 360  # pulses of CDUY
 TURNING = 4.0 * RADIAN  # what a jet brings each second, in radians a second
@@ -96,6 +98,7 @@ class Craft:
         self.pulse, self.rounding = PULSE, 0.0
         self.counted = {PIPAX: 0.0, PIPAZ: 0.0}
         self.sent = {PIPAX: 0, PIPAZ: 0, CDUY: self.angle()}
+        self.events = 0  # that the computer got from the craft
 
     def angle(self):
         return math.floor(degrees(self.tilt) * DEGREE)
@@ -225,6 +228,7 @@ class Craft:
             if more:
                 more = max(-FASTEST[counter], min(FASTEST[counter], more))
                 self.sent[counter] += more
+                self.events += abs(more)
                 kinds = ("pcdu", "mcdu") if counter == CDUY else ("pinc", "minc")
                 yield counter, kinds[more < 0], abs(more)
 
@@ -283,11 +287,13 @@ def report(agc, craft, step):
     if word is not None:
         agc.poke(0, RNRAD, word)
         agc.raise_interrupt(RADARUPT)
+        craft.events += 2
     if not craft.contact and craft.height <= LEG:
         craft.contact = True
         agc.input(CONTACT, 0o37577)
-    if step % 10 == 0:
+    if step % (DOWNLINK if craft.events < MANY else SPARING) == 0:
         agc.raise_interrupt(DOWNRUPT)
+        craft.events += 1
 
 
 def press(agc, key):

@@ -3068,8 +3068,8 @@ LOADCHK CCS     ORBNAV
 BADLOAD TC      POODOO
         OCT     3005
         TC      Q
-# BRKCHK: the same for P63. Its load may be in the units of an orbit: its altitude is up to 16.4 km then, its mass up to
-# 15,500 kg.
+# BRKCHK: the same for P63. Its load may be in the units of an orbit: its altitude is up to 16.4 km then, its mass 12,500 to
+# 15,500 kg: with less nobody lands from there.
 BRKCHK  CS      TWO
         AD      ORBNAV
         EXTEND
@@ -3083,10 +3083,10 @@ BRKCHK  CS      TWO
         BZMF    +2
         TCF     BADLOAD
         CA      MASS
-        AD      LESS6500
+        AD      LESS12T5
         EXTEND
         BZMF    BADLOAD
-        AD      LESS9000
+        AD      LESS3000
         EXTEND
         BZMF    +2
         TCF     BADLOAD
@@ -3094,7 +3094,7 @@ BRKCHK  CS      TWO
 LESS512 DEC     -512
 LESS6500 DEC    -6500
 LESS2500 DEC    -2500
-LESS9000 DEC    -9000
+LESS3000 DEC    -3000
 
 # JUDGE: A = 68 or 69 for the touchdown, by the accelerometers: since the autopilot's last look they have counted
 # gravity, and what stopped the craft. Outside the limits, 1.5 m/s down, 0.6 m/s forward or back and 3 degrees, alarm
@@ -3195,6 +3195,7 @@ RANGEJOB CA     XN
         TC      SQRT
         TS      RANGE
         TC      ENDOFJOB
+LESS12T5 DEC    -12500
 
 # ---- bank 10: what has the units of an orbit: P63 far from the site, and an abort to an orbit, by P70 with the descent
 # engine, by P71 with the ascent engine

@@ -802,16 +802,18 @@ def try_orbit(flights):
             judge(what, True, right)
 
 
-def far_machine(way, height, forward, up, degrees, mass):
-    """A machine with a state in the units of an orbit, in which P63 has begun, at its next SERVICER."""
+def far_machine(way, height, forward, up, degrees, mass, loaded=14000):
+    """A machine with a state in the units of an orbit, in which P63 has begun, at its next SERVICER. The mass is another one than
+    the load's, which must be that of a craft that can land."""
     machine = Machine()
     machine.go(40000)
-    for name, value in (("XN", -way / 32), ("ZN", height / 32), ("VX", 2 * forward), ("VZ", 2 * up), ("MASS", mass)):
+    for name, value in (("XN", -way / 32), ("ZN", height / 32), ("VX", 2 * forward), ("VZ", 2 * up), ("MASS", loaded)):
         machine.put_both(name, value)
     machine.put("ORBNAV", 2)
     machine.poke(0, example.CDUY, round(degrees * example.DEGREE) % 32768)
     machine.press("VERB 3 7 ENTR 6 3 ENTR", 0.1)
     machine.seconds(0.5)
+    machine.put_both("MASS", mass)
     return machine
 
 
@@ -858,13 +860,17 @@ def try_far_guidance():
     for what, keys, state in (
         ("P64 with a load for P63", "VERB 3 7 ENTR 6 4 ENTR", (400000, 13000, 1500, -15, -82, 14000)),
         ("P63 from 17 km", "RSET", (400000, 17000, 1500, -15, -82, 14000)),
-        ("P63 with 16,000 kg", "RSET", (400000, 13000, 1500, -15, -82, 16000)),
+        ("P63 with 15,600 kg", "RSET", (400000, 13000, 1500, -15, -82, 15600, 15600)),
+        ("P63 with 12,400 kg", "RSET", (400000, 13000, 1500, -15, -82, 12400, 12400)),
     ):
         with far_machine(*state) as machine:
             machine.press("VERB 3 4 ENTR", 0.1) if "P64" in what else None
             machine.press(keys, 0.1)
             machine.seconds(0.5)
             judge(f"{what}: a bad load", ("00", 0o3005), (machine.panel()["PROG"], machine.word("FAILREG", 2)))
+    for mass in (12600, 15400):
+        with far_machine(400000, 13000, 1500, -15, -82, mass, mass) as machine:
+            judge(f"P63 with {mass} kg: a good load", ("63", 0), (machine.panel()["PROG"], machine.word("FAILREG", 2)))
 
 
 def try_high_above():
@@ -1459,9 +1465,10 @@ WRONG = [
     (["--script", f"{folder}/alarm/vac"], "on the ground: -", ": within the limits", "program 68, alarm 01201"),
     (["--script", f"{folder}/alarm/waitlist"], "on the ground: -", ": within the limits", "program 68, alarm 01203"),
     (["--loaded-mass", "0"], "not on the ground", "", "program 00, alarm 03005"),
+    (["--orbit", "--loaded-mass", "9000"], "not on the ground", "", "program 00, alarm 03005"),
     (["--orbit", "--fault", "engine:100:60"], "Aborted: orbit of ", " km", "program 71, alarm 03003"),
     # a long flight that uses up its fuel, and still has room for an orbit in its script
-    ("--height 1516.132 --way 15000 --forward -20 --down 51.847 --seed 10072".split(), "Aborted: orbit of ", " km", "program 71, alarm 03004"),
+    ("--height 4000 --way 13000 --forward -13.451 --down 81.26 --seed 1700987576".split(), "Aborted: orbit of ", " km", "program 71, alarm 03004"),
     (["--loaded-mass", "6890"], "Aborted: orbit of ", " km", "program 71, alarm 03004"),
 ]
 
@@ -1472,6 +1479,24 @@ def try_wrong_flights(flights):
         judge(f"{name}: the verdict", True, verdict.startswith(begin) and verdict.endswith(end))
         judge(f"{name}: program and alarm", told, last)
         judge(f"{name}: the status", 0, status)
+
+
+def try_downlink():
+    """The downlink's interrupt comes each tenth of a second; each second once the craft has sent 48,000 events."""
+
+    class Computer:
+        raised: list = []
+
+        def raise_interrupt(self, number):
+            self.raised.append(number)
+
+    for events, wanted in ((0, 30), (47969, 30), (48000, 3)):
+        craft, computer = example.Craft(), Computer()
+        craft.events, computer.raised = events, []
+        for step in range(1, 301):
+            example.report(computer, craft, step)
+        judge(f"three seconds of the downlink after {events} events", [8] * wanted, computer.raised)
+        judge("its events count", events + wanted, craft.events)
 
 
 def try_engine():
@@ -1764,6 +1789,7 @@ def main():
             (try_mistakes,),
             (try_turning,),
             (try_exact,),
+            (try_downlink,),
             (try_engine,),
             (try_touchdown,),
             (try_waitlist,),

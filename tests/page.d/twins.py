@@ -39,6 +39,8 @@ FLIGHTS = (
         1400: ['rendezvous'], 2400: ['landing'], 3000: ['nearer', 'abort'], 3100: ['rate-up'],
     }, 6000),
 )
+FULL = ('a script that is nearly full', 19, {}, {}, 3000)
+EVENTS = 47000  # of the craft, with which this flight begins: from the 48,000th on the downlink's interrupt is rare
 ORBIT = ('a landing from orbit', 18, {175: '3'}, {}, 73500)
 
 
@@ -107,8 +109,9 @@ def recorded(instrument, keys, buttons, end):
     return came, done, rows
 
 
-HARNESS = """(Instrument, seed, came, orbit) => {
+HARNESS = """(Instrument, seed, came, orbit, events) => {
     const instrument = new Instrument({ seed, orbit });
+    instrument.craft.events = events;
     const all = [];
     const rows = [];
     let words = {};
@@ -158,16 +161,20 @@ def try_twins():
     os.mkdir(home)
     window = Window(os.environ['BROWSER'], home, 800, 600)
     window.value(f'window.Twin = {instrument_of_page()}; 0')
-    for what, seed, keys, buttons, end in (*FLIGHTS, ORBIT):
-        is_far = what == ORBIT[0]
+    for what, seed, keys, buttons, end in (*FLIGHTS, FULL, ORBIT):
+        is_far, events = what == ORBIT[0], EVENTS if what == FULL[0] else 0
         born = craft.Craft(**craft.IN_ORBIT, seed=seed, is_far=True) if is_far else craft.Craft(seed=seed)
+        born.events = events
         came, done, rows = recorded(craft.Instrument(born, seed), {**APPROACH, **keys}, buttons, end)
-        found, found_rows = window.value(f'({HARNESS})(Twin, {seed}, {json.dumps(came)}, {json.dumps(is_far)})')
+        found, found_rows = window.value(f'({HARNESS})(Twin, {seed}, {json.dumps(came)}, {json.dumps(is_far)}, {events})')
         judge(f'{what}: there are events', True, sum(map(len, done)) > end / 2)
         differs = next((tick for tick, pair in enumerate(zip(done, found), 1) if pair[0] != pair[1]), None)
         judge(f'{what}: the first tick that differs, and how many there are', (None, end), (differs, len(found)))
         differs = next((pair for pair in zip(rows, found_rows) if json.loads(json.dumps(pair[0])) != pair[1]), None)
         judge(f'{what}: rows that differ', None, differs)
+        if events:
+            downlinks = [tick for tick, each in enumerate(done, 1) if 'raise 8' in each]
+            judge(f'{what}: the downlink gets rare', (10, 100), (downlinks[1] - downlinks[0], downlinks[-1] - downlinks[-2]))
     judge('the words for an orbit', 'Aborted: orbit of 85 by 18 km', words_for_orbit(window))
     window.close()
 
