@@ -104,6 +104,21 @@ def ran(*words):
     return subprocess.run(words, capture_output=True, text=True)
 
 
+EMULATOR = os.path.join(scratch, "emulator")
+
+
+def compile_emulator():
+    """Compiles the emulator in C beside this file, which was written from docs/SPECIFICATION.md and shares no code with agc."""
+    source = os.path.join(os.path.dirname(os.path.realpath(__file__)), "emulator.c")
+    done = ran("cc", "-O2", "-Wall", "-Wextra", "-Werror", "-o", EMULATOR, source)
+    judge("the emulator compiles", (0, ""), (done.returncode, done.stderr))
+
+
+def emulated(script, cycle):
+    """The lines that the other emulator prints of a script: display, end and writes, as `agc --log`."""
+    return ran(EMULATOR, example.ROPE, script, str(cycle)).stdout.splitlines()
+
+
 # flights
 
 
@@ -243,6 +258,7 @@ def flight(seed):
         ("the count of writes of agc", log[8].endswith(f" WRITES {len(writes)}")),
         ("the writes of agc", log[9 : 9 + len(writes)] == [f"{w.cycle} {w.channel:03o} {w.value:05o}" for w in writes]),
         ("the tables of agc", log[9 + len(writes) :] == tables),
+        ("display and writes of another emulator", log[: 9 + len(writes)] == emulated(script, cycle)),
     ):
         wrong.append((f"flight {seed} from {height:.0f} {way:.0f} {forward:.1f} {down:.1f}: {what}", right))
     line = (
@@ -786,6 +802,7 @@ def descended(number):
         ("the other integration, forward", abs(other[1] - forward) < 0.08),
         ("the other integration, tilt", abs(other[2] - tilt) < 0.15),
         ("agc repeats it", log[9:] == [f"{w.cycle} {w.channel:03o} {w.value:05o}" for w in writes] and log[0] == "PROG 68"),
+        ("so does another emulator", log == emulated(script, cycle)),
     ]
     line = (
         f"orbit {number} {start[0]:6.0f} {start[1]:7.0f} {start[2]:7.1f} {start[3]:5.1f}: {now:5.0f} s, {up:+.2f} {forward:+.2f} {tilt:+.2f},"
@@ -1038,6 +1055,7 @@ def abort_flight(number):
         ("the other integration, height", abs(other[3] - craft.height) < 0.05 * now),
         ("events", len(text.splitlines()) < 50000),
         ("agc repeats it", log[9:] == [f"{w.cycle} {w.channel:03o} {w.value:05o}" for w in writes] and log[0] == f"PROG {shown[0]}"),
+        ("so does another emulator", log == emulated(script, cycle)),
     ]
     line = (
         f"{name:34s} {high:6.1f} {low:5.1f} km, shown {shown[3]} {shown[4]} {shown[5]}, fuel {craft.fuel():5.0f}, {now:5.0f} s,"
@@ -1394,8 +1412,9 @@ def try_1202(flights):
     judge("the codes after RSET", [0, 0, 0o1201], codes)
     judge("it lands", True, landed(touched))
     judge("in P68", "68", end[:2])
-    log = ran(agc, example.ROPE, script, "--limit", str(cycle)).stdout.splitlines()
+    log = ran(agc, example.ROPE, script, "--limit", str(cycle), "--log").stdout.splitlines()
     judge("agc comes to the same end", "PROG 68", log[0])
+    judge("so does another emulator, with all writes", True, len(log) > 10000 and log == emulated(script, cycle))
     judge("without pulses there is no alarm", ([0, 0, 0], None), (calm[2], calm[1]))
     judge("and it lands too", "68", calm[4][:2])
     # what our tools say: eight core sets in use with the pulses, seven at most without; the pulses' cycles
@@ -1742,6 +1761,7 @@ def main():
     def wanted(name):
         return len(sys.argv) == 1 or name in sys.argv[1:]
 
+    compile_emulator()
     with multiprocessing.Pool(JOBS) as pool:
         running = wanted("try_hour") and pool.map_async(hour, [0], 1)
         counted = wanted("try_flown") and pool.map_async(flown, [0], 1)
