@@ -215,10 +215,12 @@ def flight(seed):
     craft = example.Craft(height, way, forward, down, seed)
     near_gate = seed % 6 < 2
     script = os.path.join(scratch, f"flight-{seed}")
-    writes = []
+    writes, swing = [], 0.0  # swing: the greatest tilt of a hover from 30 s after the engine's start on
     with Machine() as machine:
         for now, written in example.fly(machine, craft):
             writes += written
+            if now > 34 and seed % 6 == 2 and not craft.touched:
+                swing = max(swing, abs(math.degrees(craft.tilt)))
         writes += machine.go(1000)
         panel, tables = machine.panel(), machine.tables(SPEC)
         alarms = {machine.word("FAILREG", n) for n in range(3)} - {0}
@@ -243,6 +245,7 @@ def flight(seed):
         ("forward below 0.6 m/s", aborted or abs(forward_then) < 0.6),
         ("within 3 degrees", aborted or abs(tilt) < 3),
         ("in P68", aborted or panel["PROG"] == "68"),
+        ("a hover is upright after 30 s", swing < 2),
         ("at the site from high gate", not near_gate or abs(miss) < 40),
         ("engine off", aborted or not craft.engine),
         ("fuel left", craft.fuel() > 0),
@@ -1414,7 +1417,7 @@ def try_1202(flights):
     judge("in P68", "68", end[:2])
     log = ran(agc, example.ROPE, script, "--limit", str(cycle), "--log").stdout.splitlines()
     judge("agc comes to the same end", "PROG 68", log[0])
-    judge("so does another emulator, with all writes", True, len(log) > 10000 and log == emulated(script, cycle))
+    judge("so does another emulator, with all writes", (True, True), (len(log) > 5000, log == emulated(script, cycle)))
     judge("without pulses there is no alarm", ([0, 0, 0], None), (calm[2], calm[1]))
     judge("and it lands too", "68", calm[4][:2])
     # what our tools say: eight core sets in use with the pulses, seven at most without; the pulses' cycles
