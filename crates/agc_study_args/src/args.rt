@@ -17,6 +17,8 @@ pub enum Args {
     Profile(ProfileArgs),
     Jobs(JobsArgs),
     Sample(SampleArgs),
+    Downlink(DownlinkArgs),
+    Uplink(UplinkArgs),
     Compare(CompareArgs),
     Film(FilmArgs),
     Convert(ConvertArgs),
@@ -180,6 +182,27 @@ pub struct SampleArgs {
     pub names: Option<String>,
     /// Whether a zero whose first word is -0 is printed as `-0` (`--zeros`).
     pub shows_minus_zero: bool,
+}
+
+/// Arguments of `downlink`: a log, and the lists that it has.
+#[derive(Debug, Drop)]
+pub struct DownlinkArgs {
+    /// The file of lists.
+    pub lists: String,
+    /// What `agc --log` has printed.
+    pub log: String,
+}
+
+/// Arguments of `uplink`: keys to send from the ground, and when.
+#[derive(Debug, Drop)]
+pub struct UplinkArgs {
+    pub keys: String,
+    /// The cycle of the first bit (`--from`).
+    pub from: u64,
+    /// The cycles from key to key (`--every`).
+    pub every: u64,
+    /// The cycles from bit to bit (`--bits`).
+    pub bits: u64,
 }
 
 /// Arguments of `compare`: two runs.

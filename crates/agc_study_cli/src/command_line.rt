@@ -39,6 +39,8 @@ fn subcommands<'a>(alloc: Global) -> Subcommands<'a> {
         .profile_command()
         .jobs_command()
         .sample_command()
+        .downlink_command()
+        .uplink_command()
         .compare_command()
         .film_command()
         .convert_command()

@@ -10,6 +10,7 @@ mod restore;
 mod runs;
 mod sample;
 mod shown;
+mod telemetry;
 mod values;
 mod words;
 
