@@ -20,6 +20,8 @@ mod cmd_words;
 mod compares;
 mod counts;
 mod fault;
+mod film_script;
+mod film_words;
 mod films;
 mod full_list;
 mod included;

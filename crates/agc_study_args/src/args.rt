@@ -243,6 +243,8 @@ pub struct FilmArgs {
     pub watch: Option<String>,
     /// The symbol file (`--names`).
     pub names: Option<String>,
+    /// The file of verbs and nouns, for the display in words (`--nouns`).
+    pub nouns: Option<String>,
 }
 
 /// Arguments of `convert`: a rope file, its reading, and that of the result.

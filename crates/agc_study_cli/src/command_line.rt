@@ -280,7 +280,12 @@ impl<'a> Subcommands<'a> {
                 "Last machine cycle of the film: decimal, from 0; the stop if left out",
             )
             .watch_option(false)
-            .names_option("Accept names from this file in --until: a line for each, PLACE NAME");
+            .names_option("Accept names from this file in --until: a line for each, PLACE NAME")
+            .option(
+                "nouns",
+                "FILE",
+                "Show the display in words, by this file of verbs and nouns: verb 16 monitor, noun 36 R1 hours = 1",
+            );
         self.with(
             "film",
             "Prints a web page that shows the DSKY over the time of a run, or of two runs side by side.",

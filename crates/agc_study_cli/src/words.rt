@@ -268,6 +268,7 @@ fn film_args(alloc: Global, given: &ArgMatches<'_>) -> Result<Args, ArgsFault> {
         part: span_of(alloc, given)?,
         watch: text_of(alloc, given, "watch")?,
         names: text_of(alloc, given, "names")?,
+        nouns: text_of(alloc, given, "nouns")?,
     }))
 }
 
