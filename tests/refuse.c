@@ -9,6 +9,7 @@
 //   SHORT_WRITES=K    no write to standard output or standard error takes more than K bytes
 //   REFUSE_MARK=D     to the file descriptor D goes a line when something is refused: 'growth', 'start' (a growth that
 //                     pthread_create asked for), 'thread', 'read' or 'write'
+//   END_AFTER=S       the program is ended after S seconds
 //
 // All are counted from the program's own start: what the loader asks for before is not. The mark is written at the
 // refusal, since a program may leave without running destructors.
@@ -53,6 +54,7 @@ __attribute__((constructor)) static void begin(void) {
     reads.refused = number("REFUSE_READ", 0);
     writes.refused = number("REFUSE_WRITE", 0);
     growths.refused = number("REFUSE_GROWTH", 0);
+    alarm((unsigned)number("END_AFTER", 0));
 }
 
 // Whether this one is to be refused; then it is marked.
