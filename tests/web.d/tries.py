@@ -1203,6 +1203,7 @@ def try_hangup():
         os.execv(os.path.join(TOP, 'agc-web'), ['agc-web', rope, script, '--port', '0', '--save', saved])
     with open(terminal, 'rb', buffering=0) as lines:
         judge('it has begun', True, lines.readline().startswith(b'http://127.0.0.1:'))
+        time.sleep(0.5)  # while the line is still on its way a terminal that goes is a fault of standard output
     judge('it ends', True, wait(lambda: os.waitpid(number, os.WNOHANG)[0] == number))
     with open(saved) as file:
         judge('the script is saved', '5 key 4\n', file.read())
