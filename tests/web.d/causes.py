@@ -206,11 +206,21 @@ def try_causes():
 
 
 def try_cause_line():
-    """With a listing the order's line is lit."""
+    """With a listing the order's line is lit. A quantity of two cells has the later change of both."""
     folder = woven('verbs')
+    with open(os.path.join(folder, 'quantities'), 'w', encoding='ascii') as file:
+        file.write('left DIGITS double B28\n')
     site = started(os.path.join(folder, 'rope'), with_keys(KEYS))
     window = opened(site)
     of_line(site, window, folder)
+    site.do('undo')
+    see(window, 'now.cycle', 20_000)
+    rope = os.path.join(folder, 'rope')
+    last = [traced(rope, site.script(), 20_000, '--cell', place)[-1] for place in ('0102', '0103')]
+    judge('the words change apart', 2, len({line.split()[0] for line in last}))
+    press(window, 'left', '#quantity-rows ')
+    wanted = max(int(line.split()[0]) for line in last)
+    judge('the later one', wanted, see(window, 'now.cycle', wanted))
     window.close()
     site.end()
 
