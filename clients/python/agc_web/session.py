@@ -247,8 +247,7 @@ class Session:
             hit = self._breakpoints.go_to(min([target, *self._next_cycles()]))
             if hit is not None:
                 self._stand()
-                self._rewinder.go_to(self.console.cycle, self.journal.events)
-                self._show_rewound()
+                self._show_anew()
                 self.hit = hit
                 self._look()
         self.furthest = max(self.furthest, self.console.cycle)
@@ -275,8 +274,7 @@ class Session:
             return
         self._stand()
         if self.breakpoints:
-            self._rewinder.go_to(self.console.cycle, self.journal.events)
-            self._show_rewound()
+            self._show_anew()
         else:
             self._rewinder.history.clear()
             self._rewinder.history.extend(self.console.step(HISTORY))
@@ -299,6 +297,11 @@ class Session:
         self._show_rewound()
         self._look()
 
+    def _show_anew(self) -> None:
+        """Finds the last boundaries by running them once more."""
+        self._rewinder.go_to(self.console.cycle, self.journal.events)
+        self._show_rewound()
+
     def _show_rewound(self) -> None:
         """Finds anew what is kept of the machine, after it was taken to another cycle."""
         self._is_dirty = True
@@ -316,26 +319,25 @@ class Session:
     @_on_machine
     def step(self) -> None:
         """Goes on by one boundary; time stops."""
+        self._begin_step()
+        self._rewinder.history.extend(self.console.step())
+        self.furthest = max(self.furthest, self.console.cycle)
+        self._look()
+
+    def _begin_step(self) -> None:
+        """Stops time, and does what is due at this cycle."""
         self._want_machine()
         if self.playing:
             self.pause()
         self.hit = self.trouble = ""
         self._press_due()
         self._ticker.tick_due(self.console)
-        self._rewinder.history.extend(self.console.step())
-        self.furthest = max(self.furthest, self.console.cycle)
-        self._look()
 
     @_on_machine
     def step_by_call(self, way: str) -> None:
         """Goes on by `over` or `finish`, as the console has them; time stops. Keys that wait go on waiting. If instruments tick on the way,
         it goes on farther and farther until the script shows the end, and back to there."""
-        self._want_machine()
-        if self.playing:
-            self.pause()
-        self.hit = self.trouble = ""
-        self._press_due()
-        self._ticker.tick_due(self.console)
+        self._begin_step()
         cycle, comes = self.console.cycle, self.console.next()
         length = min([LONGEST_STEP, *(tick - cycle for tick in self._ticker.next_cycles())])
         came, end = self._end_of(way, cycle, comes, length)
@@ -361,8 +363,7 @@ class Session:
             self._undo.pop()
         else:
             self._run_to(cycle)
-            self._rewinder.go_to(self.console.cycle, self.journal.events)
-            self._show_rewound()
+            self._show_anew()
         self.furthest = max(self.furthest, self.console.cycle)
 
     def _job(self) -> str:

@@ -298,13 +298,18 @@ export class Machine {
     this.#publishTime();
   }
 
-  async #stepOnce() {
+  // Stops time, and does what is due at this cycle.
+  async #beginStep() {
     this.#wantMachine();
     if (this.playing) await this.#pause();
     this.hit = '';
     this.trouble = '';
     await this.#pressDue();
     await this.#tickAndSay(() => []);
+  }
+
+  async #stepOnce() {
+    await this.#beginStep();
     this.#rewinder.keep(await this.#console.step());
     this.furthest = Math.max(this.furthest, this.#console.cycle);
     await this.#look();
@@ -313,12 +318,7 @@ export class Machine {
   // Goes on by `over` or `finish`, as the console has them; time stops. Keys that wait go on waiting. If instruments tick on the way, it
   // goes on farther and farther until the script shows the end, and back to there.
   async #stepByCall(way) {
-    this.#wantMachine();
-    if (this.playing) await this.#pause();
-    this.hit = '';
-    this.trouble = '';
-    await this.#pressDue();
-    await this.#tickAndSay(() => []);
+    await this.#beginStep();
     const [{ cycle }, comes, { waiting }] = [this.#console, await this.#console.next(), this.#keyboard];
     this.#keyboard.waiting = [];
     let length = Math.min(LONGEST_STEP, ...this.#ticker.nextCycles().map((tick) => tick - cycle));
