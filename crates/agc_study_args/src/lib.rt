@@ -15,7 +15,7 @@ mod words_apart;
 
 pub use args::{
     Args, CheckArgs, CompareArgs, ConvertArgs, DownlinkArgs, DumpArgs, FilmArgs, JobsArgs,
-    ListArgs, ListStyle, MOST_DUMPS, MOST_MARKS, MergeArgs, NAME, ObservedArgs, PatchArgs,
+    ListArgs, ListStyle, MOST_DUMPS, MOST_MARKS, MergeArgs, Moved, NAME, ObservedArgs, PatchArgs,
     ProfileArgs, RepairArgs, RunOptions, SampleArgs, SampleTimes, SumsArgs, TraceArgs, UplinkArgs,
     WeaveArgs, WordsArgs,
 };

@@ -2,6 +2,7 @@
 #![tactic(auto)]
 
 mod arg_list;
+mod bank_list;
 mod command_line;
 mod jobs;
 mod merge;
