@@ -42,6 +42,8 @@ RUPTTEM ERASE
 DSPTAB  ERASE   +13         # the relay words as they were written last
 PROUP   ERASE               # +0 while PRO is down
 DNPTR   ERASE               # the downlist's place
+UPWORD  ERASE               # UPRUPT: the uplink's word,
+UPAPART ERASE               # and by how much its copies differ
         SETLOC  0200
 MPAC    ERASE   +7          # eight core sets of 12 words: MPAC and MODE,
 LOC     ERASE
@@ -217,7 +219,10 @@ NEWREM  ERASE               # and what the step in hand leaves
         QXCH    QRUPT
         TCF     KEYRUPT2
         SETLOC  4034
-        RESUME              # UPRUPT
+        DXCH    ARUPT
+        EXTEND
+        QXCH    QRUPT
+        TCF     UPRUPT
         SETLOC  4040
         TCF     DOWNRUPT
         SETLOC  4044
@@ -981,6 +986,38 @@ SETALARM TS     FAILREG +2
         AD      BIT9
         TS      SIGNS +13
         TC      Q
+
+# UPRUPT: a key from the ground. INLINK has its code, the complement and the code again, five bits each: so the word's
+# last ten bits are the first ten of its complement.
+UPRUPT  CA      ZERO
+        XCH     INLINK      # +0 for the next word
+        TS      UPWORD
+        CS      A
+        MASK    POSMAX
+        EXTEND
+        MP      BIT10       # bits 14 to 6 of the complement
+        COM
+        TS      UPAPART
+        CA      UPWORD
+        MASK    LOW10
+        ADS     UPAPART
+        CA      UPWORD
+        EXTEND
+        BZMF    +3          # bit 15 of the complement is 0
+        CS      BIT10
+        ADS     UPAPART
+        CA      UPAPART
+        EXTEND
+        BZF     +2
+        TCF     RUPTEND     # the copies differ: no key
+        CA      PRIO30
+        TC      NOVAC
+        2CADR   CHARIN
+        CA      LOW5
+        MASK    UPWORD
+        INDEX   LOCCTR
+        TS      MPAC
+        TCF     RUPTEND
 
 # ---- bank 03: constants, arithmetic
         SETLOC  6000

@@ -35,7 +35,7 @@ CELLS = {
     "A": 0o0, "L": 0o1, "Q": 0o2, "EBANK": 0o3, "FBANK": 0o4, "Z": 0o5, "BBANK": 0o6, "ZERO": 0o7, "ARUPT": 0o10,
     "LRUPT": 0o11, "QRUPT": 0o12, "ZRUPT": 0o15, "BBRUPT": 0o16, "BRUPT": 0o17, "CYR": 0o20, "SR": 0o21, "CYL": 0o22,
     "EDOP": 0o23, "TIME2": 0o24, "TIME1": 0o25, "TIME3": 0o26, "TIME4": 0o27, "TIME5": 0o30, "TIME6": 0o31, "CDUX": 0o32,
-    "CDUY": 0o33, "CDUZ": 0o34, "PIPAX": 0o37, "PIPAY": 0o40, "PIPAZ": 0o41, "RNRAD": 0o46,
+    "CDUY": 0o33, "CDUZ": 0o34, "PIPAX": 0o37, "PIPAY": 0o40, "PIPAZ": 0o41, "INLINK": 0o45, "RNRAD": 0o46,
 }  # fmt: skip
 TWO_WORDS = {"2OCT", "2DEC", "2CADR"}
 WITHOUT_WORDS = {"EQUALS", "EBANK=", "SETLOC", "BANK", "ERASE"}

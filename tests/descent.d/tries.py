@@ -19,6 +19,7 @@ import craft as example
 import exact
 from agc import Console
 from judge import AGC, CONSOLE, STUDY, attempt, finish, judge, near, scratch_folder
+from uplinks import try_uplink
 
 agc, console, study = AGC, CONSOLE, STUDY
 scratch = scratch_folder()
@@ -1805,6 +1806,7 @@ def main():
             (try_abort_without_fuel,),
             (try_names,),
             (try_keys,),
+            (try_uplink,),
             (try_flight_keys,),
             (try_1201,),
             (try_instrument,),
