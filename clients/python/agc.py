@@ -454,7 +454,7 @@ class Console:
         elif words[0] == "back":
             # only `back C` drops the events at the cycle
             way = words[2:] if words[1] == "list" else words[1:]
-            last = cycle if way[0] in ("until", "step") else cycle - 1
+            last = cycle - 1 if way[0].isdigit() else cycle
             self._injected = [pair for pair in self._injected if _event_after(*pair).cycle <= last]
             self._count_room()
         elif words[0] == "quiet":
@@ -516,6 +516,21 @@ class Console:
         """So many boundaries, each an order, an event, a timer's step or an interrupt. Returns their lines, as
         `agc-study trace` prints them."""
         return self.say(f"step {boundaries}").lines
+
+    def over(self, within: Optional[int] = None, *, job: Optional[Place] = None) -> Came:
+        """Runs over the call that comes next, to the order behind it: one of three places, in a service of an interrupt only if the
+        machine is in one now. With `job`, a cell, only where that has its present word, as PRIORITY of core set 0. If no call comes
+        next, takes one boundary."""
+        return self._call("over", job, within)
+
+    def finish(self, within: Optional[int] = None, *, job: Optional[Place] = None) -> Came:
+        """Runs out of the routine, to the place that Q names, as `over` does."""
+        return self._call("finish", job, within)
+
+    def _call(self, step: str, job: Optional[Place], within: Optional[int]) -> Came:
+        bound = "" if within is None else f" within {within}"
+        answer = self.say(f"{_step_by_calls(step, job)}{bound}")
+        return Came("came yes" in answer.lines, _writes(answer.lines))
 
     def until(self, place: Place, within: Optional[int] = None, *, condition: Optional[str] = None) -> Came:
         """Runs until the order at a place is in hand, with a condition such as "COUNT < 5" only while that holds; 1,000,000
@@ -631,6 +646,14 @@ class Console:
     def back_step(self, boundaries: int = 1) -> bool:
         """Goes back by this number of boundaries, or a little more: to the first boundary of the same cycle."""
         return self._back(f"step {boundaries}")
+
+    def back_over(self, *, job: Optional[Place] = None) -> bool:
+        """Goes back over the call that the order in hand follows, or by a boundary if it follows none. `job` as for `over`."""
+        return self._back(_step_by_calls("over", job))
+
+    def back_finish(self, *, job: Optional[Place] = None) -> bool:
+        """Goes back to the call from which Q returns. `job` as for `over`."""
+        return self._back(_step_by_calls("finish", job))
 
     def _back(self, what: str) -> bool:
         try:
@@ -829,6 +852,11 @@ def _place(place: Place) -> str:
 def _order(place: Place, condition: Optional[str]) -> str:
     """The place of an order, with a condition if one is named."""
     return _place(place) if condition is None else f"{_place(place)} if {condition}"
+
+
+def _step_by_calls(step: str, job: Optional[Place]) -> str:
+    """A step by calls, in the job that a cell tells from others if one is named."""
+    return step if job is None else f"{step} job {_place(job)}"
 
 
 def _with_word(command: str, word: Optional[int]) -> str:

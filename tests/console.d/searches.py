@@ -8,6 +8,7 @@ import subprocess
 import tempfile
 from typing import NamedTuple, Optional, Tuple
 
+from calls import JOB, Calls, calling_rope
 from judge import judge
 from session import Session, meaning
 from walks import whole_place
@@ -134,6 +135,7 @@ class Trace:
         self.lines = [line_of(text) for text in self.printed()]
         self.cells = {}
         self.panels = None
+        self.calls = Calls(self, words[0])
 
     def printed(self, *options):
         # a file takes the lines faster than a pipe
@@ -227,6 +229,10 @@ class Reference:
         """Whether the boundary of a line hits a breakpoint: an order by its place and what a cell holds before it, an
         interrupt by what it is, a write by what it writes, a cell or the panel by its change, a line of the panel if it is shown after it and was not before."""
         trace, kind = self.trace, what[0]
+        if kind == "boundary":
+            return True
+        if kind == "caller":
+            return trace.calls.hits(what, at)
         if kind == "order":
             comes = trace.lines[at].place == whole_place(what[1])
             return comes and (not what[2:] or holds(trace.cell(what[3], at), *what[4:]))
@@ -243,13 +249,13 @@ class Reference:
 
     def is_hit(self, what):
         """Whether a run stops here: an order and an interrupt come next, the others have come."""
-        return self.hits(what, self.at if what[0] in ("order", "interrupt") else self.at - 1)
+        return self.hits(what, self.at if what[0] in ("order", "interrupt", "caller") else self.at - 1)
 
-    def run(self, breakpoints, within):
-        """Runs to the first breakpoint that is hit, and returns its number."""
+    def run(self, breakpoints, within, stops=False):
+        """Runs to the first breakpoint that is hit, and returns its number. With `stops` the step that finds the limit may hit, too."""
         end = self.cycle + within
         while self.stop is None and self.cycle < end:
-            if self.step().stop:
+            if self.step().stop and not stops:
                 break
             for number, what in sorted(breakpoints.items()):
                 if self.is_hit(what):
@@ -301,6 +307,9 @@ class Reference:
             what = rest[:-2] if rest[0] in ("write", "cell") else ["order", *rest[:-2]]
             came = self.run({1: what}, within)
             return [*self.writes, "came yes" if came else "came no"]
+        if first in ("over", "finish"):
+            came = self.run({1: self.trace.calls.ahead(first, self.at, "job" in rest)}, within, stops=True)
+            return [*self.writes, "came yes" if came else "came no"]
         if first == "continue":
             number = self.run(self.breaks, within)
             return [*self.writes, "hit none" if number is None else f"hit {number} {self.text_of(self.breaks[number])}"]
@@ -328,6 +337,9 @@ class Reference:
     def go_back(self, words):
         if words[0] == "until":
             return self.back_until(kind_of(words))
+        if words[0] in ("over", "finish"):
+            what = self.trace.calls.back(words[0], self.at, "job" in words)
+            return self.back_steps(1) if what == ["boundary"] else self.back_until(what)
         if words[0] == "step":
             return self.back_steps(int(words[1]) if words[1:] else 1)
         self.back(int(words[0]))
@@ -413,8 +425,9 @@ def busy_rope(dice):
 class Choices:
     """What a session tries: mostly what happens in the run of its rope."""
 
-    def __init__(self, dice, trace):
+    def __init__(self, dice, trace, by_calls):
         self.dice = dice
+        self.by_calls = by_calls
         self.places = [line.text.split()[1] for line in trace.lines if line.place is not None]
         self.writes = sorted({line.write for line in trace.lines if line.write}) or [(0o10, 0o44017)]
         self.interrupts = sorted({line.name for line in trace.lines if line.name.startswith("interrupt ")}) or ["interrupt T4RUPT"]
@@ -464,9 +477,14 @@ class Choices:
         is_watch = what.startswith("cell ") and self.dice.random() < 0.5
         return f"watch {what[len('cell ') :]}" if is_watch else f"break {what}"
 
+    def a_call_step(self):
+        return self.dice.choice(["over", "over", "finish"]) + self.dice.choice(["", f" job {JOB}"])
+
     def a_run(self):
         """A command that runs the machine forwards."""
         within = f"within {self.dice.choice([0, 1, 10, 100, 800, 800])}"
+        if self.by_calls and self.dice.random() < 0.7:
+            return f"{self.a_call_step()} {self.dice.choice([within, 'within 800'])}"
         commands = [
             f"go {self.dice.choice([0, 1, 2, 13, 200, 853])}", "step", f"step {self.dice.randrange(30)}",
             f"until {self.an_order()} {within}", f"until {self.a_write().split(' ')[1]} {within}", f"until cell {self.a_cell()} {within}",
@@ -477,6 +495,8 @@ class Choices:
     def a_search(self, cycle):
         """A command that goes back."""
         kind = self.dice.randrange(10)
+        if self.by_calls and self.dice.random() < 0.7:
+            return f"back {self.a_call_step()}"
         if kind < 6:
             return f"back until {self.mostly([self.a_breakpoint()], ['interrupt', 'panel', 'panel'])}"
         steps = self.dice.choice(["", f" {self.dice.randrange(1, 60)}", f" {self.dice.randrange(1, 2 * cycle + 2)}"])
@@ -560,17 +580,18 @@ def take_event(reference, said):
     return [] if found is not None else "it does not come"
 
 
-def search(console, study, rope, script, dice, an_event, scratch):
-    """Says random commands to a console, and follows them along the traces of its scripts."""
-    if dice.random() < 0.5:
+def search(console, study, rope, script, dice, an_event, scratch, by_calls=False):
+    """Says random commands to a console, and follows them along the traces of its scripts. With `by_calls` most of them step by
+    calls."""
+    if by_calls or dice.random() < 0.5:
         rope, script = os.path.join(scratch, "search.rope"), os.path.join(scratch, "search.script")
         with open(rope, "wb") as file:
-            file.write(busy_rope(dice))
+            file.write(calling_rope(dice) if by_calls else busy_rope(dice))
         with open(script, "w") as file:
             file.write(f"every {dice.randrange(20, 300)} {dice.randrange(100)} 4000 raise {dice.randrange(1, 11)}\n")
     limit = dice.choice([None, None, 1000])
     session = Session(console, [rope, script, *(["--limit", str(limit)] if limit else [])])
-    choices = Choices(dice, Trace(study, [rope, script, "--limit", "1500"]))
+    choices = Choices(dice, Trace(study, [rope, script, "--limit", "1500"]), by_calls)
     parts = parts_of(session, choices, dice, an_event)
     judge("a search ends", (b"", 0), session.close())
     reference = Reference(None)

@@ -1,6 +1,6 @@
 """Random sessions of agc-console against the plain run of agc on the script that each tells, and odd uses of it.
 
-The words are seeds.
+The words are seeds; behind `calls` only for sessions that step by calls.
 """
 
 import os
@@ -19,7 +19,9 @@ from session import Session, meaning
 from walks import walk
 
 agc, study, console, top, scratch = AGC, STUDY, CONSOLE, TOP, scratch_folder()
-seeds = [int(seed) for seed in sys.argv[1:]] or range(200)
+only_calls = sys.argv[1:2] == ["calls"]
+seeds = [int(seed) for seed in sys.argv[1 + only_calls :]] or range(500 if only_calls else 200)
+CALLING = 40  # the first seeds, of whose sessions one steps by calls
 
 LAST_CYCLE = 1_000_000_000_000
 TABLES = "0,100,4,0,100,0,200"
@@ -120,13 +122,14 @@ def a_break(dice):
 
 def a_way_back(dice, cycle):
     until = dice.choice(["interrupt", "panel", *(a_breakpoint(dice) for _ in range(6))])
-    way = dice.choice([str(dice.randrange(cycle + 500)), f"until {until}", "step", f"step {dice.randrange(1, 60)}"])
+    calls = dice.choice(["over", "finish", "over job 100"])
+    way = dice.choice([str(dice.randrange(cycle + 500)), f"until {until}", "step", f"step {dice.randrange(1, 60)}", calls])
     return dice.choice(["back ", "back list "]) + way
 
 
 def a_command(dice, cycle):
     """Any command, wrong ones among them, and now and then none."""
-    kind = dice.randrange(22)
+    kind = dice.randrange(23)
     within = dice.choice(["", f" within {dice.randrange(5000)}"])
     if kind < 4:
         return f"go {dice.choice([0, 1, 7, 100, 853, 5000, 30000])}"
@@ -153,6 +156,8 @@ def a_command(dice, cycle):
         return dice.choice([f"break {a_break(dice)}", "breaks", f"print {a_cell(dice)}"])
     if kind < 20:
         return f"continue within {dice.randrange(5000)}"
+    if kind == 20:
+        return dice.choice(["over", "finish"]) + dice.choice(["", " job 100"]) + f" within {dice.randrange(5000)}"
     return wrong_line(dice)
 
 
@@ -215,7 +220,7 @@ def cycle_of(command, cycle):
 
 
 def way_of(command):
-    """The first word that says how a `back` goes: a cycle, `until` or `step`."""
+    """The first word that says how a `back` goes: a cycle, `until`, `step`, `over` or `finish`."""
     return command.split()[2 if command.startswith("back list ") else 1]
 
 
@@ -471,6 +476,10 @@ def try_an_hour_back():
 
 for each in seeds:
     try:
+        if only_calls or each < CALLING or len(sys.argv) > 1:
+            search(console, study, "", "", random.Random(f"calls {each}"), an_event, scratch, by_calls=True)
+        if only_calls:
+            continue
         try_seed(each)
         dice = random.Random(-1 - each)
         walk(console, study, files_of(dice, each)[0], dice, an_event, scratch)

@@ -44,6 +44,8 @@ unfolding answered
 answered_plain names (command.Inject what) s h = absurd h
 answered_plain names (command.Back way) s h = absurd h
 answered_plain names (command.BackTo search) s h = absurd h
+answered_plain names (command.StepCall step) s h = absurd h
+answered_plain names (command.BackCall step) s h = absurd h
 answered_plain names (command.Break what) s h = absurd h
 answered_plain names (command.Delete number) s h = absurd h
 answered_plain names (command.Quiet quiet) s h = absurd h

@@ -7,6 +7,7 @@ pub mod Due
 pub mod Going
 pub mod Input
 pub mod Searching
+pub mod ByCalls
 pub mod Nearby
 pub mod Sessions
 pub mod Stepping

@@ -104,6 +104,7 @@ no_quiet (condition.Shows line) before p s e = refl
 no_quiet condition.Boundary before p s e = cc
 no_quiet (condition.Order place) before p s e = cc
 no_quiet (condition.OrderIf place comparison) before p s e = cc
+no_quiet (condition.Caller caller) before p s e = cc
 no_quiet (condition.Cell cell) before p s e = cc
 no_quiet (condition.Interrupt which) before p s e = cc
 
@@ -114,6 +115,7 @@ no_stop (condition.Shows line) before p s why e = refl
 no_stop condition.Boundary before p s why e = cc
 no_stop (condition.Order place) before p s why e = cc
 no_stop (condition.OrderIf place comparison) before p s why e = cc
+no_stop (condition.Caller caller) before p s why e = cc
 no_stop (condition.Cell cell) before p s why e = cc
 no_stop (condition.Interrupt which) before p s why e = cc
 
@@ -351,6 +353,7 @@ pub in_range : (what : Condition) → IsBreakpointInRange what → IsConditionIn
 unfolding IsBreakpointInRange
 in_range (condition.Order place) h = tt
 in_range (condition.OrderIf place comparison) h = h.1
+in_range (condition.Caller caller) h = h
 in_range (condition.Write channel word) h = tt
 in_range (condition.Cell cell) h = h
 in_range (condition.Interrupt which) h = tt

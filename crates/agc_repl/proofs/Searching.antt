@@ -23,6 +23,8 @@ saved_means name = refl
 
 means_itself : (request : Request) (s : Repl) → IsItself request → Means request s request
 means_itself (Ok (Some (command.BackTo search))) s h = absurd h
+means_itself (Ok (Some (command.StepCall step))) s h = absurd h
+means_itself (Ok (Some (command.BackCall step))) s h = absurd h
 means_itself (Ok (Some (command.Save name))) s h = (Ok tt, saved_means name)
 means_itself request s h = refl
 

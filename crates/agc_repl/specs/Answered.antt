@@ -2,14 +2,17 @@
 use Rattle.std.specs.Prelude.{◌≡◌, ◌⊎◌, ℕ, ◌+◌, ◌-◌, ◌^◌, ◌==◌, nat_le, min, length, is_some, Bool, List, [], ◌∷◌, ◌++◌, Option, None, Some, Result, Ok, Err, if◌then◌else◌, codes, flat_map}
 use Rattle.std.specs.Io.KnownBytes.{Appends}
 use Rattle.agc_repl.specs.Fault.{fault_text_with}
+use Rattle.agc_repl.specs.declared.command.BackCall.{BackCall}
 use Rattle.agc_repl.specs.declared.command.Command.{Command}
 use Rattle.agc_repl.specs.declared.command.Rewind.{Rewind}
 use Rattle.agc_repl.specs.declared.command.Search.{Search}
+use Rattle.agc_repl.specs.declared.command.StepCall.{StepCall}
 use Rattle.agc_repl.specs.declared.command.Command.TheVariants as command
 use Rattle.agc_repl.specs.declared.fault.CommandFault.{CommandFault}
 use Rattle.agc_repl.specs.declared.fault.CommandFault.TheVariants as invalid
 use Rattle.agc_script.specs.Event.{most_events}
 use Rattle.agc_script.specs.declared.event.What.{What}
+use Rattle.agc_session.specs.Calls.{ahead, back}
 use Rattle.agc_session.specs.Condition.{IsFoundBack, armed_in}
 use Rattle.agc_session.specs.Session.{SessionState, discarded, injected_now}
 use Rattle.agc_script.specs.Written.{script_text}
@@ -157,20 +160,36 @@ unfoldable pub request_saved : FileName → Result (Unit {0}) SaveFault → Requ
 request_saved name (Ok done) = Ok (Some (command.Save name))
 request_saved name (Err why) = Err (invalid.NotSaved why)
 
--- What a request means in a state: a search back means to go back to the cycle that it finds, or a line at fault if
--- it finds none; `save` means itself, or a line at fault if it fails. Every other request means itself.
-abbrev pub Means : Request → Repl → Request → Type 0
-Means (Ok (Some (command.BackTo search))) t meant =
+-- a step by calls as the run to the order at which it ends, and a step back by calls as the search for it
+abbrev pub call_request : StepCall → Repl → Request
+call_request step t = Ok (Some (command.Until (ahead step.step step.job t.session.now) step.within))
+
+abbrev pub call_search : BackCall → Repl → Search
+call_search step t = record { what = back step.step step.job t.session.now; count = 1; lists = step.lists }
+
+-- a search back as `back` to the cycle that it finds
+abbrev pub MeansFound : Search → Repl → Request → Type 0
+MeansFound search t meant =
     (found : Option ℕ) × IsFoundBack search.what search.count t.session found × (meant ≡ found_request search found)
+
+-- What a request means in a state: a search back means to go back to the cycle that it finds, or a line at fault if
+-- it finds none; a step by calls means `until` the condition at which it ends, back the search for it; `save` means
+-- itself, or a line at fault if it fails. Every other request means itself.
+abbrev pub Means : Request → Repl → Request → Type 0
+Means (Ok (Some (command.BackTo search))) t meant = MeansFound search t meant
+Means (Ok (Some (command.StepCall step))) t meant = meant ≡ call_request step t
+Means (Ok (Some (command.BackCall step))) t meant = MeansFound (call_search step t) t meant
 Means (Ok (Some (command.Save name))) t meant =
     (saved : Result (Unit {0}) SaveFault) × (meant ≡ request_saved name saved)
 Means request t meant = meant ≡ request
 
--- the answer to a command; a search back is answered by what it means
+-- the answer to a command; a search back and a step by calls are answered by what they mean
 unfoldable pub answered : Option (List Symbol) → Command → Repl → Answer
 answered names (command.Inject what) t = given_answer what t
 answered names (command.Back way) t = back_answer way t
 answered names (command.BackTo search) t = (t, [])
+answered names (command.StepCall step) t = (t, [])
+answered names (command.BackCall step) t = (t, [])
 answered names (command.Break what) t = break_answer what t
 answered names (command.Delete number) t = delete_answer number t
 answered names (command.Quiet quiet) t = quiet_answer quiet t
@@ -238,15 +257,19 @@ abbrev pub IsHandled : Option (List Symbol) → Request → Repl → Repl → Op
 IsHandled names request s t old new =
     ((meant : Request) × Means request s meant × IsAnswered names meant s t old new) ⊎ RunsOut names request s t old new
 
--- a request that can mean itself: every one but a search back
+-- a request that can mean itself: every one but a search back and a step by calls
 abbrev pub IsItself : Request → Type 0
 IsItself (Ok (Some (command.BackTo search))) = ⊥
+IsItself (Ok (Some (command.StepCall step))) = ⊥
+IsItself (Ok (Some (command.BackCall step))) = ⊥
 IsItself request = Unit {0}
 
 -- a request that does not go back
 abbrev pub IsInPlace : Request → Type 0
 IsInPlace (Ok (Some (command.Back way))) = ⊥
 IsInPlace (Ok (Some (command.BackTo search))) = ⊥
+IsInPlace (Ok (Some (command.StepCall step))) = ⊥
+IsInPlace (Ok (Some (command.BackCall step))) = ⊥
 IsInPlace request = Unit {0}
 
 -- commands that neither go back, inject nor change the settings, which are executed separately
@@ -256,6 +279,8 @@ IsPlain (command.Delete number) = ⊥
 IsPlain (command.Quiet quiet) = ⊥
 IsPlain (command.Back way) = ⊥
 IsPlain (command.BackTo search) = ⊥
+IsPlain (command.StepCall step) = ⊥
+IsPlain (command.BackCall step) = ⊥
 IsPlain (command.Inject what) = ⊥
 IsPlain command = Unit {0}
 

@@ -1,7 +1,7 @@
 -- How a line is parsed as a command, with symbols for places if there are any: one definition for each command, on
 -- the words after its name.
 use Rattle.std.specs.Prelude.{◌≡◌, ℕ, ◌+◌, ◌≤◌, ◌<◌, ◌==◌, ◌||◌, nat_lt, is_none, is_some, Bool, true, false, List, [], ◌∷◌, length, codes, drop, position}
-use Rattle.std.specs.Prelude.{Option, Some, None, Result, Ok, Err, if◌then◌else◌}
+use Rattle.std.specs.Prelude.{Option, Some, None, IfSome, Result, Ok, Err, if◌then◌else◌}
 use Rattle.std.specs.List.{list_any}
 use Rattle.std.specs.Option.{ok_or}
 use Rattle.std.specs.Str.{bytes_eq}
@@ -36,7 +36,9 @@ use Rattle.agc_repl.specs.declared.fault.CommandFault.TheVariants as fault
 use Rattle.agc_repl.specs.declared.name.CommandName.{CommandName}
 use Rattle.agc_repl.specs.declared.name.CommandName.TheVariants as name
 use Rattle.agc_session.specs.Comparison.{IsComparisonInRange}
-use Rattle.agc_session.specs.Condition.{IsConditionInRange}
+use Rattle.agc_session.specs.Condition.{IsConditionInRange, IsJobInRange}
+use Rattle.agc_session.specs.declared.calls.CallStep.{CallStep}
+use Rattle.agc_session.specs.declared.calls.CallStep.TheVariants as call
 use Rattle.agc_session.specs.declared.condition.Condition.{Condition}
 use Rattle.agc_session.specs.declared.condition.Condition.TheVariants as condition
 
@@ -69,6 +71,26 @@ unfoldable pub within_of : CommandName → List (List ℕ) → Result ℕ Comman
 within_of n [] = Ok 1000000
 within_of n (first ∷ words) =
     if bytes_eq first (codes "within") then only_cycles n words else Err (fault.Usage n)
+
+-- `job CELL` at the beginning of some words, and the words after it
+abbrev pub job_cell : Option (List Symbol) → CommandName → List (List ℕ) → Result (Option ℕ) CommandFault
+job_cell names n [] = Err (fault.Usage n)
+job_cell names n (place ∷ words) = and_then (cell_in names place) (λ cell. Ok (Some cell))
+
+unfoldable pub job_in : Option (List Symbol) → CommandName → List (List ℕ) → Result (Option ℕ) CommandFault
+job_in names n [] = Ok None
+job_in names n (first ∷ words) = if bytes_eq first (codes "job") then job_cell names n words else Ok None
+
+unfoldable pub after_job : List (List ℕ) → List (List ℕ)
+after_job [] = []
+after_job (first ∷ words) = if bytes_eq first (codes "job") then drop 1 words else first ∷ words
+
+-- `over` and `finish`
+unfoldable pub call_of : Option (List Symbol) → CommandName → CallStep → List (List ℕ) → Result Command CommandFault
+call_of names n step words =
+    and_then (job_in names n words)
+    (λ job. and_then (within_of n (after_job words))
+    (λ within. Ok (command.StepCall (record { step = step; job = job; within = within }))))
 
 unfoldable pub until_target : Condition → List (List ℕ) → Result Command CommandFault
 until_target what words = and_then (within_of name.Until words) (λ within. Ok (command.Until what within))
@@ -217,6 +239,12 @@ unfoldable pub back_step : List (List ℕ) → Result Command CommandFault
 back_step [] = Ok (last_hit condition.Boundary)
 back_step (first ∷ words) = and_then (only_cycles name.Back (first ∷ words)) steps_back
 
+-- `back over` and `back finish`
+unfoldable pub back_call_of : Option (List Symbol) → CallStep → List (List ℕ) → Result Command CommandFault
+back_call_of names step words =
+    and_then (job_in names name.Back words)
+    (λ job. alone (command.BackCall (record { step = step; job = job; lists = false })) name.Back (after_job words))
+
 -- `back until write CCC` and `back until write CCC WORD`
 unfoldable pub back_write_of : ℕ → List (List ℕ) → Result Command CommandFault
 back_write_of channel [] = Ok (last_hit (condition.Write (Some channel) None))
@@ -262,6 +290,8 @@ way_back names [] = Err (fault.Usage name.Back)
 way_back names (first ∷ words) =
     if bytes_eq first (codes "step") then back_step words
     else if bytes_eq first (codes "until") then back_until names words
+    else if bytes_eq first (codes "over") then back_call_of names call.Over words
+    else if bytes_eq first (codes "finish") then back_call_of names call.Finish words
     else and_then (only_cycles name.Back (first ∷ words))
     (λ cycle. Ok (command.Back (record { cut = cycle; cycle = cycle; lists = false })))
 
@@ -269,6 +299,7 @@ way_back names (first ∷ words) =
 unfoldable pub listing : Command → Command
 listing (command.Back way) = command.Back (record way { lists = true })
 listing (command.BackTo search) = command.BackTo (record search { lists = true })
+listing (command.BackCall back) = command.BackCall (record back { lists = true })
 listing c = c
 
 -- the same, or `list` before it
@@ -287,6 +318,8 @@ save_of words = and_then (only_word name.Save words) (λ word. Ok (command.Save 
 unfoldable pub command_by : Option (List Symbol) → CommandName → List (List ℕ) → Result Command CommandFault
 command_by names name.Go words = go_of words
 command_by names name.Step words = step_of words
+command_by names name.Over words = call_of names name.Over call.Over words
+command_by names name.Finish words = call_of names name.Finish call.Finish words
 command_by names name.Until words = until_of names words
 command_by names name.Break words = break_of names words
 command_by names name.Breaks words = alone command.Breaks name.Breaks words
@@ -371,6 +404,7 @@ IsChannelInRange (Some channel) = IsIoChannel channel
 IsChannelInRange None = Unit {0}
 
 unfoldable pub IsBreakpointInRange : Condition → Type 0
+IsBreakpointInRange (condition.Caller caller) = IsJobInRange caller.job
 IsBreakpointInRange (condition.Order place) = IsWithin place
 IsBreakpointInRange (condition.OrderIf place comparison) = IsWithin place × IsComparisonInRange comparison
 IsBreakpointInRange (condition.Write channel word) = IsChannelInRange channel
@@ -380,7 +414,12 @@ IsBreakpointInRange condition.Panel = Unit {0}
 IsBreakpointInRange (condition.Shows line) = Unit {0}
 IsBreakpointInRange condition.Boundary = Unit {0}
 
+abbrev pub IsJobCell : Option ℕ → Type 0
+IsJobCell job = IfSome job (λ cell. cell < erasable_cells)
+
 unfoldable pub IsCommandInRange : Command → Type 0
+IsCommandInRange (command.StepCall step) = IsJobCell step.job × (step.within ≤ last_cycle)
+IsCommandInRange (command.BackCall back) = IsJobCell back.job
 IsCommandInRange (command.Go cycles) = cycles ≤ last_cycle
 IsCommandInRange (command.GoTo cycle) = cycle ≤ last_cycle
 IsCommandInRange (command.Step boundaries) = boundaries ≤ last_cycle

@@ -8,6 +8,8 @@ use Rattle.agc_repl.specs.declared.name.CommandName.TheVariants as name
 unfoldable pub name_text : CommandName → List ℕ
 name_text name.Go = codes "go"
 name_text name.Step = codes "step"
+name_text name.Over = codes "over"
+name_text name.Finish = codes "finish"
 name_text name.Until = codes "until"
 name_text name.Break = codes "break"
 name_text name.Breaks = codes "breaks"
@@ -33,8 +35,8 @@ name_text name.Quit = codes "quit"
 -- every name, once
 unfoldable pub all_names : List CommandName
 all_names =
-    name.Go ∷ name.Step ∷ name.Until ∷ name.Break ∷ name.Breaks ∷ name.Delete ∷ name.Continue
-    ∷ name.Quiet ∷ name.Panel ∷ name.Watch ∷ name.Registers ∷ name.Next ∷ name.Ahead ∷ name.Where
+    name.Go ∷ name.Step ∷ name.Over ∷ name.Finish ∷ name.Until ∷ name.Break ∷ name.Breaks ∷ name.Delete
+    ∷ name.Continue ∷ name.Quiet ∷ name.Panel ∷ name.Watch ∷ name.Registers ∷ name.Next ∷ name.Ahead ∷ name.Where
     ∷ name.Cell ∷ name.Print ∷ name.Channel ∷ name.Writes ∷ name.Back ∷ name.Script
     ∷ name.Save ∷ name.Help ∷ name.Quit ∷ []
 
@@ -46,6 +48,8 @@ name_named word = find (λ n. bytes_eq (name_text n) word) all_names
 unfoldable pub usage_text : CommandName → List ℕ
 usage_text name.Go = codes "go N, or go to C"
 usage_text name.Step = codes "step, or step N"
+usage_text name.Over = codes "over [job CELL] [within N]"
+usage_text name.Finish = codes "finish [job CELL] [within N]"
 usage_text name.Until =
     codes "until PLACE [if CELL < WORD], write CCC or cell PLACE [within N]"
 usage_text name.Break =
@@ -65,7 +69,7 @@ usage_text name.Print = codes "print PLACE, or print PLACE N"
 usage_text name.Channel = codes "channel CCC"
 usage_text name.Writes = codes "writes"
 usage_text name.Back =
-    codes "back [list] C, step [N], or until PLACE [if CELL < WORD], write CCC [WORD], cell PLACE, interrupt [NAME] or panel"
+    codes "back [list] C, step [N], over or finish [job CELL], or until PLACE [if CELL < WORD], write CCC [WORD], cell PLACE, interrupt [NAME] or panel"
 usage_text name.Script = codes "script"
 usage_text name.Save = codes "save FILE"
 usage_text name.Help = codes "help"

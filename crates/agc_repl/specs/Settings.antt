@@ -86,6 +86,7 @@ breakpoint_text (condition.OrderIf place comparison) =
 breakpoint_text (condition.Write channel word) = codes "write" ++ channel_text channel ++ word_text word
 breakpoint_text (condition.Cell cell) = codes "cell " ++ place_text (cell_place cell)
 breakpoint_text (condition.Interrupt which) = codes "interrupt" ++ interrupt_text which
+breakpoint_text (condition.Caller caller) = codes "caller"
 breakpoint_text condition.Panel = codes "panel"
 breakpoint_text (condition.Shows line) = codes "panel " ++ line_text line
 breakpoint_text condition.Boundary = codes "boundary"

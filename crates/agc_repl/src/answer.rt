@@ -310,6 +310,7 @@ fn push_breakpoint(text: &mut String, what: Condition) -> Result<(), AllocError>
             text.push_str("interrupt")?;
             push_interrupt_of(text, which)
         }
+        Condition::Caller(_) => text.push_str("caller"),
         Condition::Panel => text.push_str("panel"),
         Condition::Shows(line) => {
             text.push_str("panel ")?;

@@ -2,7 +2,7 @@
 use crate::file_name::FileName;
 use agc_panel::WatchSpec;
 use agc_script::What;
-use agc_session::Condition;
+use agc_session::{CallStep, Condition};
 
 /// A way back to a cycle.
 #[derive(Clone, Copy, Debug, PartialEq, Eq)]
@@ -26,6 +26,26 @@ pub struct Search {
     pub lists: bool,
 }
 
+/// A step by calls.
+#[derive(Clone, Copy, Debug, PartialEq, Eq)]
+pub struct StepCall {
+    pub step: CallStep,
+    /// The cell whose word tells the present job from others.
+    pub job: Option<u16>,
+    /// The most cycles.
+    pub within: u64,
+}
+
+/// A step back by calls.
+#[derive(Clone, Copy, Debug, PartialEq, Eq)]
+pub struct BackCall {
+    pub step: CallStep,
+    /// The cell whose word tells the present job from others.
+    pub job: Option<u16>,
+    /// Whether the answer lists the dropped events.
+    pub lists: bool,
+}
+
 /// A command of the console.
 #[derive(Clone, Copy, Debug, PartialEq, Eq)]
 pub enum Command {
@@ -35,6 +55,8 @@ pub enum Command {
     GoTo(u64),
     /// Take this many boundaries.
     Step(u64),
+    /// Step over a call, or finish one.
+    StepCall(StepCall),
     /// Run until a condition is hit, for at most this many cycles.
     Until { what: Condition, within: u64 },
     /// Set a numbered breakpoint.
@@ -73,6 +95,8 @@ pub enum Command {
     Back(Rewind),
     /// Rewind to the start of a boundary that a search finds.
     BackTo(Search),
+    /// Rewind over a call, or to the call of the routine that runs.
+    BackCall(BackCall),
     /// Export the script that replays the session.
     Script,
     /// Save that script to a new file.

@@ -4,7 +4,7 @@ ghost use Rattle.agc_listing.specs.Location.{IsWithin};
 ghost use Rattle.agc_word.specs.Text.{words_of};
 ghost use Rattle.agc_session.specs.Comparison.{IsComparisonInRange};
 ghost use Rattle.agc_session.specs.Condition.{IsConditionInRange};
-ghost use Rattle.agc_repl.specs.Command.{IsBreakpointInRange};
+ghost use Rattle.agc_repl.specs.Command.{IsBreakpointInRange, IsCommandInRange, until_place};
 ghost use Rattle.agc_repl.specs.Comparison.{
   after_order,
   compared_in,
@@ -18,9 +18,11 @@ ghost use Rattle.agc_repl.specs.Comparison.{
   sign_of,
 };
 
+use crate::command::Command;
 use crate::fault::CommandFault;
 use crate::name::CommandName;
 use crate::place::{read_cell, read_place};
+use crate::request::read_until_target;
 use crate::words::is_word;
 use agc_listing::{Cell, Location, decimal_word, octal_word, push_place};
 use agc_session::{Comparison, Condition, Relation};
@@ -48,7 +50,7 @@ pub(crate) fn read_only_order(
 
 /// Parses the place of an order, and a comparison if one follows.
 #[tactic(auto, unfolding(crate::specs::Comparison::order_in))]
-pub(crate) fn read_order(
+fn read_order(
     names: &Option<SymbolTable>,
     name: CommandName,
     words: &[u8],
@@ -62,9 +64,24 @@ pub(crate) fn read_order(
     read_order_if(names, name, place, rest)
 }
 
+/// Parses the words after `until`: the place of an order, a comparison if one follows, and the most cycles.
+pub(crate) fn read_until_place(
+    names: &Option<SymbolTable>,
+    words: &[u8],
+) -> Result<Command, CommandFault>
+    ensures until { result ≡ until_place names.now (words_of words.now) }
+    ensures range { IfOk result IsCommandInRange }
+{
+    let rest = after_order(words);
+    match read_order(names, CommandName::Until, words) {
+        Ok(what) => read_until_target(what, rest),
+        Err(fault) => Err(fault),
+    }
+}
+
 /// Returns the words after the place of an order and its comparison.
 #[tactic(auto, unfolding(crate::specs::Comparison::after_order))]
-pub(crate) fn after_order(words: &[u8]) -> &[u8]
+fn after_order(words: &[u8]) -> &[u8]
     ensures { words_of result.now ≡ after_order (words_of words.now) }
 {
     let rest = without_first(words);
@@ -78,7 +95,7 @@ pub(crate) fn after_order(words: &[u8]) -> &[u8]
 }
 
 /// Returns the words without the first one.
-fn without_first(words: &[u8]) -> &[u8]
+pub(crate) fn without_first(words: &[u8]) -> &[u8]
     ensures { words_of result.now ≡ drop 1 (words_of words.now) }
 {
     match next_word(words) {

@@ -5,7 +5,7 @@
 //! and `back` reserve what they need first, and their answers need no memory; a search back finds its cycle first. If
 //! an event is rejected because the machine takes no more events, the script's events that were due have happened. No
 //! clause states that an answer is written before the next line is read; only tests show it.
-ghost use Rattle.std.specs.Prelude.{◌≡◌, ◌<◌, ◌⊎◌, ◌++◌, Some, Ok, Err, codes, IfErr, IfOk, IfSome, IsErrOf, MatchResult, OnErr, OnOk, string_bytes};
+ghost use Rattle.std.specs.Prelude.{◌≡◌, ◌<◌, ◌≤◌, ◌⊎◌, ◌++◌, Some, Ok, Err, codes, IfErr, IfOk, IfSome, IsErrOf, MatchResult, OnErr, OnOk, string_bytes};
 ghost use Rattle.std.specs.Io.KnownBytes.{Appends, Keeps, append_known};
 ghost use Rattle.agc_repl.specs.Answer.{end_line, error_line};
 ghost use Rattle.agc_repl.specs.Answered.{
@@ -35,15 +35,15 @@ ghost use Rattle.agc_repl.specs.Transcript.{AreAnswered, IsSessionOf, RanOut, re
 ghost use Rattle.agc_session.specs.Condition.{IsConditionInRange};
 ghost use Rattle.agc_repl.specs.Queries.{shown_text};
 ghost use Rattle.agc_repl.specs.Repl.{at_start};
-ghost use Rattle.agc_script.specs.Event.{IsWhatInRange};
+ghost use Rattle.agc_script.specs.Event.{IsWhatInRange, last_cycle};
 ghost use Rattle.agc_repl.specs.Fault.{fault_text_with};
-ghost use Rattle.agc_repl.specs.Command.{IsBreakpointInRange, IsCommandInRange};
+ghost use Rattle.agc_repl.specs.Command.{IsBreakpointInRange, IsCommandInRange, IsJobCell};
 ghost use Rattle.agc_repl.specs.Settings.{at_first, breakpoint_line, next_numbered, with_breakpoint};
 ghost use Rattle.agc_repl.specs.declared.conversation.ReplFault.TheVariants.{Memory};
 
 use crate::ahead::ahead;
 use crate::answer::{push_breakpoint_line, push_end_line, push_refusal_line};
-use crate::command::{Command, Rewind, Search};
+use crate::command::{BackCall, Command, Rewind, Search, StepCall};
 use crate::commands::{go, go_on_to, go_on_until, inject, refusal, step, until};
 use crate::fault::CommandFault;
 use crate::file_name::FileName;
@@ -168,8 +168,8 @@ fn flush<W: Write>(output: &mut W) -> Result<(), ReplFault>
     }
 }
 
-/// Answers a request: a search back by what it finds, `save` by whether it succeeds. If memory runs out, the answer
-/// ends by reporting it.
+/// Answers a request: a search back by what it finds, a step by calls as a run or a search, `save` by whether it
+/// succeeds. If memory runs out, the answer ends by reporting it.
 #[tactic(auto, unfolding(crate::specs::Command::IsCommandInRange))]
 fn answer<W: Write, S: Saver>(
     alloc: Global,
@@ -183,10 +183,54 @@ fn answer<W: Write, S: Saver>(
     ensures { IfOk result (λ left. IsHandled names.now request repl left (W.contents output.old) (W.contents output.new)) }
 {
     match request {
+        Ok(Some(Command::StepCall(step))) => answer_call(alloc, names, repl, step, output),
+        Ok(Some(Command::BackCall(step))) => answer_back_call(alloc, names, repl, step, output),
         Ok(Some(Command::BackTo(search))) => answer_search(alloc, names, repl, search, output),
         Ok(Some(Command::Save(name))) => answer_save(alloc, names, repl, name, output, saver),
         itself => answer_without_search(alloc, names, repl, itself, output),
     }
+}
+
+/// Steps by calls: runs to the order at which the step ends.
+fn answer_call<W: Write>(
+    alloc: Global,
+    names: &Option<SymbolTable>,
+    repl: Repl,
+    step: StepCall,
+    output: &mut W,
+) -> Result<Repl, ReplFault>
+    requires job { IsJobCell step.job }
+    requires within { step.within ≤ last_cycle }
+    ensures { IfOk result (λ left. IsHandled names.now (Ok (Some (Command.StepCall step))) repl left
+        (W.contents output.old) (W.contents output.new)) }
+{
+    let what = step.step.ahead(repl.machine(), step.job);
+    let until = Command::Until {
+        what,
+        within: step.within,
+    };
+    answer_without_search(alloc, names, repl, Ok(Some(until)), output)
+}
+
+/// Steps back by calls: searches for the order to which the step goes back.
+fn answer_back_call<W: Write>(
+    alloc: Global,
+    names: &Option<SymbolTable>,
+    repl: Repl,
+    step: BackCall,
+    output: &mut W,
+) -> Result<Repl, ReplFault>
+    requires { IsJobCell step.job }
+    ensures { IfOk result (λ left. IsHandled names.now (Ok (Some (Command.BackCall step))) repl left
+        (W.contents output.old) (W.contents output.new)) }
+{
+    let what = step.step.back(repl.machine(), step.job);
+    let search = Search {
+        what,
+        count: 1,
+        lists: step.lists,
+    };
+    answer_search(alloc, names, repl, search, output)
 }
 
 /// Saves the script, and answers. Nothing changes in the session.

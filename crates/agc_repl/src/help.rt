@@ -67,6 +67,10 @@ fn purpose(name: CommandName) -> &'static str
             "runs N cycles, or to cycle C, 0 to 1000000000000, decimal. Example: go 85333",
         CommandName::Step =>
             "takes one boundary, or N, 0 to 1000000000000, decimal, with trace lines. Example: step 10",
+        CommandName::Over =>
+            "runs over the call that comes next to the order behind it, for 1000000 cycles or N, decimal; takes one boundary if no call comes; with CELL, octal, only where it has its present word. Example: over",
+        CommandName::Finish =>
+            "runs out of the routine, to the place that Q names, for 1000000 cycles or N, decimal; CELL as for over. Example: finish within 85333",
         CommandName::Until =>
             "runs on to it, for 1000000 cycles or N, decimal; PLACE and CCC, 5 to 777, are octal. Example: until write 10",
         CommandName::Break =>
@@ -92,7 +96,7 @@ fn purpose(name: CommandName) -> &'static str
         CommandName::Channel => "shows a channel, 0 to 777, octal. Example: channel 10",
         CommandName::Writes => "shows the number of channel writes so far",
         CommandName::Back =>
-            "returns to before cycle C, decimal, to where the Nth last boundary began, from 1 on, decimal, or to where the last one that hits it began, numbers as for break; drops later events, and with list prints them. Example: back until cell 0100",
+            "returns to before cycle C, decimal, to where the Nth last boundary began, from 1 on, decimal, to before a call, or to where the last one that hits it began, numbers as for break; drops later events, and with list prints them. Example: back until cell 0100",
         CommandName::Script => "prints the script that repeats this session",
         CommandName::Save => "writes that script to a new file. Example: save my.script",
         CommandName::Help => "prints these lines",

@@ -3,6 +3,7 @@
 
 mod ahead;
 mod answer;
+mod calls;
 mod command;
 mod commands;
 mod comparison;
@@ -29,7 +30,7 @@ pub use answer::{
     CellStyle, push_cell_lines, push_channel_line, push_end_line, push_error_line, push_fault_line,
     push_hit_line, push_write_line, push_writes_line,
 };
-pub use command::{Command, Rewind, Search};
+pub use command::{BackCall, Command, Rewind, Search, StepCall};
 pub use conversation::{ReplFault, run_repl};
 pub use fault::CommandFault;
 pub use file_name::FileName;

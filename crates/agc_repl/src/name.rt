@@ -7,6 +7,8 @@ ghost use Rattle.agc_repl.specs.Name.{name_named, name_text, usage_text};
 pub enum CommandName {
     Go,
     Step,
+    Over,
+    Finish,
     Until,
     Break,
     Breaks,
@@ -32,9 +34,11 @@ pub enum CommandName {
 
 impl CommandName {
     /// All names, each once, in the order in which `help` lists them.
-    pub const ALL: [CommandName; 23] = [
+    pub const ALL: [CommandName; 25] = [
         CommandName::Go,
         CommandName::Step,
+        CommandName::Over,
+        CommandName::Finish,
         CommandName::Until,
         CommandName::Break,
         CommandName::Breaks,
@@ -77,6 +81,8 @@ impl CommandName {
         match self {
             CommandName::Go => "go",
             CommandName::Step => "step",
+            CommandName::Over => "over",
+            CommandName::Finish => "finish",
             CommandName::Until => "until",
             CommandName::Break => "break",
             CommandName::Breaks => "breaks",
@@ -109,6 +115,8 @@ impl CommandName {
         match self {
             CommandName::Go => "go N, or go to C",
             CommandName::Step => "step, or step N",
+            CommandName::Over => "over [job CELL] [within N]",
+            CommandName::Finish => "finish [job CELL] [within N]",
             CommandName::Until =>
                 "until PLACE [if CELL < WORD], write CCC or cell PLACE [within N]",
             CommandName::Break => {
@@ -129,7 +137,7 @@ impl CommandName {
             CommandName::Channel => "channel CCC",
             CommandName::Writes => "writes",
             CommandName::Back => {
-                "back [list] C, step [N], or until PLACE [if CELL < WORD], write CCC [WORD], cell PLACE, interrupt [NAME] or panel"
+                "back [list] C, step [N], over or finish [job CELL], or until PLACE [if CELL < WORD], write CCC [WORD], cell PLACE, interrupt [NAME] or panel"
             }
             CommandName::Script => "script",
             CommandName::Save => "save FILE",

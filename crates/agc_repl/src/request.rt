@@ -53,8 +53,9 @@ ghost use Rattle.agc_repl.specs.Command.{
   words_request,
 };
 
-use crate::command::{Command, Rewind, Search};
-use crate::comparison::{after_order, read_only_order, read_order};
+use crate::calls::{read_back_call, read_call};
+use crate::command::{BackCall, Command, Rewind, Search};
+use crate::comparison::{read_only_order, read_until_place};
 use crate::fault::CommandFault;
 use crate::file_name::FileName;
 use crate::name::CommandName;
@@ -66,7 +67,7 @@ use crate::words::{alone, is_word, only_word};
 use agc_listing::first_comma;
 use agc_panel::PanelLine;
 use agc_script::{FaultKind, Key, LONGEST_LINE, has_high_byte, read_command};
-use agc_session::Condition;
+use agc_session::{CallStep, Condition};
 use agc_symbols::SymbolTable;
 use agc_word::next_word;
 
@@ -123,6 +124,8 @@ fn read_named(
     match name {
         CommandName::Go => read_go(words),
         CommandName::Step => read_step(words),
+        CommandName::Over => read_call(names, name, CallStep::Over, words),
+        CommandName::Finish => read_call(names, name, CallStep::Finish, words),
         CommandName::Until => read_until(names, words),
         CommandName::Break => read_break(names, words),
         CommandName::Breaks => alone(Command::Breaks, name, words),
@@ -283,13 +286,12 @@ fn read_until(names: &Option<SymbolTable>, words: &[u8]) -> Result<Command, Comm
         let cell = read_cell(names, place)?;
         return read_until_target(Condition::Cell(cell), rest);
     }
-    let what = read_order(names, CommandName::Until, words)?;
-    read_until_target(what, after_order(words))
+    read_until_place(names, words)
 }
 
 /// Parses the words after a breakpoint.
 #[tactic(auto, unfolding(crate::specs::Command::until_target, crate::specs::Command::IsCommandInRange))]
-fn read_until_target(what: Condition, words: &[u8]) -> Result<Command, CommandFault>
+pub(crate) fn read_until_target(what: Condition, words: &[u8]) -> Result<Command, CommandFault>
     requires { IsBreakpointInRange what }
     ensures until { result ≡ until_target what (words_of words.now) }
     ensures range { IfOk result IsCommandInRange }
@@ -300,7 +302,7 @@ fn read_until_target(what: Condition, words: &[u8]) -> Result<Command, CommandFa
 
 /// Parses `within N`. Without words, returns the default.
 #[tactic(auto, unfolding(crate::specs::Command::within_of))]
-fn read_within(name: CommandName, words: &[u8]) -> Result<u64, CommandFault>
+pub(crate) fn read_within(name: CommandName, words: &[u8]) -> Result<u64, CommandFault>
     ensures within { result ≡ within_of name (words_of words.now) }
     ensures range { IfOk result (λ cycles. cycles ≤ last_cycle) }
 {
@@ -556,6 +558,11 @@ fn listing(command: Command) -> Command
             count: search.count,
             lists: true,
         }),
+        Command::BackCall(back) => Command::BackCall(BackCall {
+            step: back.step,
+            job: back.job,
+            lists: true,
+        }),
         other => other,
     }
 }
@@ -572,6 +579,12 @@ fn read_way_back(names: &Option<SymbolTable>, words: &[u8]) -> Result<Command, C
     }
     if is_word(first, "until") {
         return read_back_until(names, rest);
+    }
+    if is_word(first, "over") {
+        return read_back_call(names, CallStep::Over, rest);
+    }
+    if is_word(first, "finish") {
+        return read_back_call(names, CallStep::Finish, rest);
     }
     let cycle = only_word(CommandName::Back, words)?;
     let cycle = read_cycles(cycle)?;

@@ -17,6 +17,7 @@ pub at_next : (number : ℕ) (what : Condition) (r s : State) (panel shown : Fac
 unfolding is_hit Meets
 at_next number (condition.Order place) r s panel shown answer e = itself _
 at_next number (condition.OrderIf place comparison) r s panel shown answer e = itself _
+at_next number (condition.Caller caller) r s panel shown answer e = itself _
 at_next number (condition.Interrupt which) r s panel shown answer e = itself _
 at_next number (condition.Cell cell) r s panel shown answer e = cc
 at_next number (condition.Write channel word) r s panel shown answer e = cc
@@ -29,6 +30,7 @@ pub at_last : (number : ℕ) (what : Condition) (s : State) (panel : Face) → i
 unfolding is_hit Meets
 at_last number (condition.Order place) s panel e = cc
 at_last number (condition.OrderIf place comparison) s panel e = cc
+at_last number (condition.Caller caller) s panel e = cc
 at_last number (condition.Interrupt which) s panel e = cc
 at_last number (condition.Cell cell) s panel e = itself _
 at_last number (condition.Write channel word) s panel e = itself _

@@ -17,10 +17,11 @@ use Rattle.agc_machine.specs.declared.order_run.Watch.TheVariants as watch
 use Rattle.agc_machine.specs.declared.upcoming.Upcoming.{Upcoming}
 use Rattle.agc_panel.specs.declared.face.Face.{Face}
 use Rattle.agc_session.specs.Comparison.{holds_in, same_word, word_at}
-use Rattle.agc_session.specs.Condition.{AreHits, Meets, is_changed, is_order_at, is_service_of, panel_after, place_number, window_address}
+use Rattle.agc_session.specs.Condition.{AreHits, Meets, is_caller, is_changed, is_order_at, is_service_of, panel_after, place_number, window_address}
 use Rattle.agc_session.specs.Search.{HasAdvanced, HasPassed}
 use Rattle.agc_session.specs.Session.{BeginBefore, shown_after}
 use Rattle.agc_session.specs.declared.comparison.Comparison.{Comparison}
+use Rattle.agc_session.specs.declared.condition.Caller.{Caller}
 use Rattle.agc_session.specs.declared.condition.Condition.{Condition}
 use Rattle.agc_session.specs.declared.condition.Condition.TheVariants as condition
 use Rattle.agc_session.proofs.Advancing.{AreMissed, AreQuiet, last_hits, last_misses, none_missed}
@@ -81,6 +82,14 @@ pub order_if_misses : (place : Location) (c : Comparison) (panel : Face) (s : St
 unfolding Meets
 order_if_misses place c panel s e h =
     let both : true ≡ false = sym (second_true (is_order_at place (upcoming_of s)) (holds_in s.processor.store c) h) ∙ e in cc
+
+pub caller_meets : (c : Caller) (panel : Face) (s : State) → is_caller c s ≡ true → Meets (condition.Caller c) panel s
+unfolding Meets
+caller_meets c panel s h = h
+
+pub caller_misses : (c : Caller) (panel : Face) (s : State) → is_caller c s ≡ false → Meets (condition.Caller c) panel s → ⊥
+unfolding Meets
+caller_misses c panel s e h = let both : true ≡ false = sym h ∙ e in cc
 
 pub service_meets : (which : Option Rupt) (panel : Face) (s : State) → is_service_of which (upcoming_of s) ≡ true
     → Meets (condition.Interrupt which) panel s

@@ -156,6 +156,7 @@ on_write b (inr (inr (line, is))) = subst IsOnWrite (sym is) refl
 meets_ends : (b : Condition) (panel : Face) (s : State) (result : Bool) → IsOnWrite b → IsTrue result ↔ Meets b panel s → IsTrue result ↔ Ends b panel s
 meets_ends (condition.Order place) panel s result on h = cc
 meets_ends (condition.OrderIf place comparison) panel s result on h = cc
+meets_ends (condition.Caller caller) panel s result on h = cc
 meets_ends condition.Boundary panel s result on h = h
 meets_ends (condition.Cell cell) panel s result on h = h
 meets_ends (condition.Write channel word) panel s result on h = h

@@ -74,6 +74,7 @@ no_quiet_hit (condition.Shows line) panel s on e h = let quiet : false ≡ true 
 no_quiet_hit condition.Boundary panel s on e h = cc
 no_quiet_hit (condition.Order place) panel s on e h = cc
 no_quiet_hit (condition.OrderIf place comparison) panel s on e h = cc
+no_quiet_hit (condition.Caller caller) panel s on e h = cc
 no_quiet_hit (condition.Cell cell) panel s on e h = cc
 no_quiet_hit (condition.Interrupt which) panel s on e h = cc
 
@@ -85,6 +86,7 @@ no_stop_hit (condition.Shows line) panel s why on e h = let none : false ≡ tru
 no_stop_hit condition.Boundary panel s why on e h = cc
 no_stop_hit (condition.Order place) panel s why on e h = cc
 no_stop_hit (condition.OrderIf place comparison) panel s why on e h = cc
+no_stop_hit (condition.Caller caller) panel s why on e h = cc
 no_stop_hit (condition.Cell cell) panel s why on e h = cc
 no_stop_hit (condition.Interrupt which) panel s why on e h = cc
 

@@ -1,5 +1,5 @@
 -- The conditions that a run stops at, and which boundaries of a run hit one.
-use Rattle.std.specs.Prelude.{◌≡◌, ◌⊎◌, ℕ, zero, suc, ◌+◌, ◌<◌, ◌≤◌, ◌%◌, if◌then◌else◌, nat_eq, Bool, true, false, not, ◌&&◌}
+use Rattle.std.specs.Prelude.{◌≡◌, ◌⊎◌, ℕ, zero, suc, ◌+◌, ◌-◌, ◌<◌, ◌≤◌, ◌%◌, if◌then◌else◌, nat_eq, nat_le, nat_lt, Bool, true, false, not, ◌&&◌}
 use Rattle.std.specs.Prelude.{List, [], ◌∷◌, ◌++◌, length, find, All, Option, None, Some, IsTrue, IsSome}
 use Rattle.std.specs.List.{list_any}
 use Rattle.agc_word.specs.Number.{Number}
@@ -27,6 +27,7 @@ use Rattle.agc_session.specs.Comparison.{IsComparisonInRange, holds_in, same_wor
 use Rattle.agc_session.specs.Session.{BeginBefore, SessionState, script_of, shown_after, start_with}
 use Rattle.agc_session.specs.declared.comparison.Comparison.{Comparison}
 use Rattle.agc_session.specs.declared.condition.Armed.{Armed}
+use Rattle.agc_session.specs.declared.condition.Caller.{Caller}
 use Rattle.agc_session.specs.declared.condition.Condition.{Condition}
 use Rattle.agc_session.specs.declared.condition.Condition.TheVariants as condition
 
@@ -57,6 +58,31 @@ is_order_at place (upcoming.Interrupt r) = false
 -- the same in a state in which a comparison holds
 abbrev pub is_order_if : Location → Comparison → State → Bool
 is_order_if place comparison s = is_order_at place (upcoming_of s) && holds_in s.processor.store comparison
+
+-- the order at one of this many places in a row comes next
+abbrev pub is_among : Location → ℕ → Location → Bool
+is_among (location.Fixed first) count (location.Fixed here) = nat_le first here && nat_lt (here - first) count
+is_among (location.Erasable first) count (location.Erasable here) = nat_le first here && nat_lt (here - first) count
+is_among (location.Fixed first) count (location.Erasable here) = false
+is_among (location.Erasable first) count (location.Fixed here) = false
+
+abbrev pub is_order_among : Location → ℕ → Upcoming → Bool
+is_order_among first count (upcoming.Order order) = is_among first count (location_at order.bank order.address)
+is_order_among first count (upcoming.Stop why) = false
+is_order_among first count (upcoming.Event what) = false
+is_order_among first count (upcoming.Timer t) = false
+is_order_among first count (upcoming.Interrupt r) = false
+
+-- a state is of a job, if one is known
+abbrev pub is_of_job : Option Comparison → Memory → Bool
+is_of_job (Some comparison) m = holds_in m comparison
+is_of_job None m = true
+
+-- An order of a caller comes next: in its job, and in a service of an interrupt if and only if the caller is.
+abbrev pub is_caller : Caller → State → Bool
+is_caller c s =
+    is_order_among c.first c.count (upcoming_of s) && (if c.serving then s.processor.serving else not s.processor.serving)
+    && is_of_job c.job s.processor.store
 
 -- the service of an interrupt comes next: of this one, or of any
 abbrev pub is_wanted : Option Rupt → Rupt → Bool
@@ -101,9 +127,14 @@ abbrev pub is_changed : ℕ → Memory → Memory → Bool
 is_changed cell before later = not (same_word (word_at cell later) (word_at cell before))
 
 -- a cell of a condition exists
+abbrev pub IsJobInRange : Option Comparison → Type 0
+IsJobInRange (Some comparison) = IsComparisonInRange comparison
+IsJobInRange None = Unit {0}
+
 abbrev pub IsConditionInRange : Condition → Type 0
 IsConditionInRange (condition.Cell cell) = cell < erasable_cells
 IsConditionInRange (condition.OrderIf place comparison) = IsComparisonInRange comparison
+IsConditionInRange (condition.Caller caller) = IsJobInRange caller.job
 IsConditionInRange condition.Boundary = Unit {0}
 IsConditionInRange (condition.Order place) = Unit {0}
 IsConditionInRange (condition.Write channel word) = Unit {0}
@@ -134,6 +165,7 @@ unfoldable pub Meets : Condition → Face → State → Type 0
 Meets condition.Boundary panel s = Unit {0}
 Meets (condition.Order place) panel s = IsTrue (is_order_at place (upcoming_of s))
 Meets (condition.OrderIf place comparison) panel s = IsTrue (is_order_if place comparison s)
+Meets (condition.Caller caller) panel s = IsTrue (is_caller caller s)
 Meets (condition.Cell cell) panel s =
     IsTrue (is_changed cell s.processor.store (boundary None s).0.processor.store)
 Meets (condition.Write channel word) panel s = IsTrue (is_write_of channel word (boundary None s).1)
@@ -200,6 +232,7 @@ IsFoundBack condition count s found = IsFoundFrom condition count (start_with (s
 abbrev pub Ends : Condition → Face → State → Type 0
 Ends (condition.Order place) panel s = IsTrue (is_order_at place (upcoming_of (boundary None s).0))
 Ends (condition.OrderIf place comparison) panel s = IsTrue (is_order_if place comparison (boundary None s).0)
+Ends (condition.Caller caller) panel s = IsTrue (is_caller caller (boundary None s).0)
 Ends condition panel s = Meets condition panel s
 
 -- none of this many boundaries ends a run forward
@@ -247,6 +280,7 @@ abbrev pub is_hit_as : Condition → Option Number → Face → State → Steppe
 is_hit_as condition.Boundary before panel s answer = true
 is_hit_as (condition.Order place) before panel s answer = is_order_at place (upcoming_of s)
 is_hit_as (condition.OrderIf place comparison) before panel s answer = is_order_if place comparison s
+is_hit_as (condition.Caller caller) before panel s answer = is_caller caller s
 is_hit_as (condition.Cell cell) before panel s answer = is_other_word cell before s.processor.store
 is_hit_as (condition.Interrupt which) before panel s answer = is_service_of which (upcoming_of s)
 is_hit_as (condition.Write channel word) before panel s answer = is_write_of channel word answer
@@ -260,6 +294,7 @@ is_hit a panel s answer = is_hit_as a.condition a.before panel s answer
 abbrev pub is_on_next : Condition → Bool
 is_on_next (condition.Order place) = true
 is_on_next (condition.OrderIf place comparison) = true
+is_on_next (condition.Caller caller) = true
 is_on_next (condition.Interrupt which) = true
 is_on_next what = false
 

@@ -3,13 +3,15 @@ ghost use Rattle.std.specs.Prelude.{◌≡◌, ◌<◌, None};
 ghost use Rattle.agc_machine.specs.Boundary.{boundary};
 ghost use Rattle.agc_machine.specs.OrderRun.{IsWatchInRange};
 ghost use Rattle.agc_session.specs.Comparison.{IsComparisonInRange};
-ghost use Rattle.agc_session.specs.Condition.{panel_after, place_number, window_address};
+ghost use Rattle.agc_session.specs.Condition.{IsJobInRange, panel_after, place_number, window_address};
 ghost use Rattle.agc_session.specs.Search.{HasAdvanced, HasPassed};
 ghost use Rattle.agc_session.specs.Session.{shown_after};
 ghost use Rattle.agc_store.specs.Places.{erasable_cells};
 
 use crate::comparison::{Comparison, has_changed, word_of};
-use crate::condition::{Condition, is_order_next, is_service_next, place_number, window_address};
+use crate::condition::{
+    Caller, Condition, is_caller_next, is_order_next, is_service_next, place_number, window_address,
+};
 use agc_listing::Location;
 use agc_machine::{Machine, Stepped, Watch};
 use agc_panel::Panel;
@@ -51,6 +53,22 @@ pub(crate) fn pass_to_order_if(
         return None;
     }
     let hit = comparison.holds_in(machine.store());
+    let began = pass(machine, panel);
+    if hit { Some(began) } else { None }
+}
+
+/// Takes one boundary. Returns the cycle at which it began, if it was an order of a caller.
+pub(crate) fn pass_to_caller(
+    caller: &Caller,
+    machine: &mut Machine,
+    panel: &mut Panel,
+    end: u64,
+) -> Option<u64>
+    requires range { IsJobInRange caller.now.job }
+    requires runs { machine.old.stopped ≡ None }
+    ensures { HasAdvanced (Condition.Caller caller.now) end panel.old panel.new machine.old machine.new result }
+{
+    let hit = is_caller_next(machine, caller);
     let began = pass(machine, panel);
     if hit { Some(began) } else { None }
 }

@@ -1,5 +1,5 @@
 //! Conditions: what a run forward or a search back stops at, and whether a boundary hits one.
-ghost use Rattle.std.specs.Prelude.{◌≡◌, ◌↔◌, ◌<◌, IsTrue, find, true};
+ghost use Rattle.std.specs.Prelude.{◌≡◌, ◌↔◌, ◌<◌, IsTrue, find, if◌then◌else◌, not, true};
 ghost use Rattle.agc_machine.specs.Boundary.{boundary, upcoming_of};
 ghost use Rattle.agc_machine.specs.State.{State};
 ghost use Rattle.agc_session.specs.Search.{IsOnWrite};
@@ -7,13 +7,18 @@ ghost use Rattle.agc_session.specs.Session.{shown_after};
 ghost use Rattle.agc_session.specs.Condition.{
   AreArmedInRange,
   IsConditionInRange,
+  IsJobInRange,
   Meets,
   armed_in,
   first_hit,
+  is_among,
+  is_caller,
   is_channel_of,
   is_hit,
   is_met_by,
+  is_of_job,
   is_on_write,
+  is_order_among,
   is_order_at,
   is_order_if,
   is_other_word,
@@ -48,6 +53,8 @@ pub enum Condition {
         place: Location,
         comparison: Comparison,
     },
+    /// An order of a caller.
+    Caller(Caller),
     /// A change of this cell, with overflow corrected. Its number is 400 octal times its bank, plus its offset.
     Cell(u16),
     /// A channel write: to this channel, or to any, and of this word, or of any.
@@ -61,6 +68,19 @@ pub enum Condition {
     Panel,
     /// A channel write after which the panel shows this line, and before which it did not.
     Shows(PanelLine),
+}
+
+/// The orders of a caller next to its call: those behind it, to which the call returns, or those before.
+#[derive(Clone, Copy, Debug, PartialEq, Eq)]
+pub struct Caller {
+    /// The place of the first one.
+    pub first: Location,
+    /// The number of places in a row.
+    pub count: u32,
+    /// Whether the caller runs in the service of an interrupt.
+    pub serving: bool,
+    /// What holds in the caller's job, if its job is known.
+    pub job: Option<Comparison>,
 }
 
 /// A numbered condition that a run forward ends at.
@@ -103,6 +123,7 @@ impl Armed {
             Condition::OrderIf { place, comparison } => {
                 is_order_next_if(machine, *place, comparison)
             }
+            Condition::Caller(caller) => is_caller_next(machine, caller),
             Condition::Cell(cell) => is_other_word(machine.store(), *cell, &self.before),
             Condition::Interrupt(which) => is_service_next(machine, *which),
             Condition::Write { .. } | Condition::Panel | Condition::Shows(_) => {
@@ -192,6 +213,61 @@ pub(crate) fn is_order_next_if(machine: &Machine, place: Location, comparison: &
     ensures { result ≡ is_order_if place comparison.now machine.now }
 {
     is_order_next(machine, place) && comparison.holds_in(machine.store())
+}
+
+/// Returns whether an order of a caller comes next, in its job and on its side of interrupts.
+pub(crate) fn is_caller_next(machine: &Machine, caller: &Caller) -> bool
+    requires { IsJobInRange caller.now.job }
+    ensures { result ≡ is_caller caller.now machine.now }
+{
+    is_order_among(machine, caller.first, caller.count)
+        && is_serving(machine, caller.serving)
+        && is_of_job(machine.store(), &caller.job)
+}
+
+/// Returns whether the order at one of some places in a row comes next.
+fn is_order_among(machine: &Machine, first: Location, count: u32) -> bool
+    ensures { result ≡ is_order_among first count (upcoming_of machine.now) }
+{
+    match machine.upcoming() {
+        Upcoming::Order(order) => is_among(first, count, location_at(order.bank, order.address)),
+        _ => false,
+    }
+}
+
+/// Returns whether a place is one of some places in a row.
+fn is_among(first: Location, count: u32, here: Location) -> bool
+    ensures { result ≡ is_among first count here }
+{
+    match (first, here) {
+        (Location::Fixed(first), Location::Fixed(here)) => first <= here && here - first < count,
+        (Location::Erasable(first), Location::Erasable(here)) => {
+            first <= here && here - first < count
+        }
+        _ => false,
+    }
+}
+
+/// Returns whether the service of an interrupt runs, or not, as wanted.
+fn is_serving(machine: &Machine, wanted: bool) -> bool
+    ensures { result ≡ if wanted then machine.now.processor.serving else not machine.now.processor.serving }
+{
+    if wanted {
+        machine.serving()
+    } else {
+        !machine.serving()
+    }
+}
+
+/// Returns whether a memory is that of a job, if one is known.
+fn is_of_job(store: &Store, job: &Option<Comparison>) -> bool
+    requires { IsJobInRange job.now }
+    ensures { result ≡ is_of_job job.now store.now }
+{
+    match job {
+        Some(comparison) => comparison.holds_in(store),
+        None => true,
+    }
 }
 
 /// Returns whether Z is one past an address of a place: its own, or the one in the window of its bank.

@@ -3,6 +3,7 @@
 
 mod arguments;
 mod by_orders;
+mod calls;
 mod cancellation;
 mod checkpoint;
 mod comparison;
@@ -14,9 +15,10 @@ mod session;
 mod writing;
 
 pub use arguments::{SessionArgs, open_session, session_args, session_from, with_session_args};
+pub use calls::CallStep;
 pub use cancellation::{Cancellation, NoCancellation};
 pub use comparison::{Comparison, Relation};
-pub use condition::{Armed, Condition};
+pub use condition::{Armed, Caller, Condition};
 pub use fault::{BeginFault, InjectFault, RewindFailed, SearchFault};
 pub use session::{Advanced, Rewound, Session};
 pub use writing::LINE_ROOM;

@@ -9,7 +9,9 @@ ghost use Rattle.agc_session.specs.Session.{start_with};
 ghost use Rattle.agc_script.specs.declared.event.Event.{Event};
 ghost use Rattle.agc_panel.specs.Face.{panel_of};
 
-use crate::by_orders::{pass, pass_to_change, pass_to_order, pass_to_order_if, pass_to_service};
+use crate::by_orders::{
+    pass, pass_to_caller, pass_to_change, pass_to_order, pass_to_order_if, pass_to_service,
+};
 use crate::cancellation::Cancellation;
 use crate::checkpoint::{Checkpoint, Checkpoints};
 use crate::condition::{Condition, is_hit_by_write};
@@ -288,6 +290,7 @@ fn advance(condition: &Condition, machine: &mut Machine, panel: &mut Panel, end:
         Condition::OrderIf { place, comparison } => {
             pass_to_order_if(*place, comparison, machine, panel, end)
         }
+        Condition::Caller(caller) => pass_to_caller(caller, machine, panel, end),
         Condition::Cell(cell) => pass_to_change(*cell, machine, panel, end),
         Condition::Interrupt(which) => pass_to_service(*which, machine, panel, end),
         Condition::Write { .. } | Condition::Panel | Condition::Shows(_) => {

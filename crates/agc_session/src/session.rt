@@ -25,8 +25,8 @@ use crate::cancellation::{Cancellation, NoCancellation};
 use crate::checkpoint::{Checkpoint, Checkpoints};
 use crate::comparison::{has_changed, word_of};
 use crate::condition::{
-    Armed, Condition, first_hit, is_hit_by_write, is_order_next, is_order_next_if, is_service_next,
-    needs_each,
+    Armed, Condition, first_hit, is_caller_next, is_hit_by_write, is_order_next, is_order_next_if,
+    is_service_next, needs_each,
 };
 use crate::fault::{BeginFault, InjectFault, RewindFailed, SearchFault};
 use crate::search::search_back;
@@ -524,6 +524,10 @@ impl Session {
             Condition::OrderIf { place, comparison } => {
                 self.step();
                 is_order_next_if(self.machine(), *place, comparison)
+            }
+            Condition::Caller(caller) => {
+                self.step();
+                is_caller_next(self.machine(), caller)
             }
             Condition::Cell(cell) => {
                 let before = word_of(self.machine().store(), *cell);

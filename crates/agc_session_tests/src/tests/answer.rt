@@ -43,7 +43,7 @@ fn an_answer_ends_with_the_cycle(rt: HostRuntime) {
     has_room(&rt, push_error_line(&mut text, "memory"));
     let wanted = "at 8533
 stop DivisionUndefined at 0
-error: Usage: back [list] C, step [N], or until PLACE [if CELL < WORD], write CCC [WORD], cell PLACE, interrupt [NAME] or panel
+error: Usage: back [list] C, step [N], over or finish [job CELL], or until PLACE [if CELL < WORD], write CCC [WORD], cell PLACE, interrupt [NAME] or panel
 error: BadChannel: a channel is octal, 0 to 777
 error: memory
 ";
@@ -106,10 +106,10 @@ print E7,1777 54321 -10030
 fn help_reports_each_command_once(rt: HostRuntime) {
     let mut text = String::new(rt.alloc());
     has_room(&rt, push_help(&mut text));
-    equal(&rt, text.as_str().lines().count(), 29);
+    equal(&rt, text.as_str().lines().count(), 31);
     assert!(rt;
         text.as_str().contains(
-            "\nback [list] C, step [N], or until PLACE [if CELL < WORD], write CCC [WORD], cell PLACE, interrupt [NAME] or panel: returns to"
+            "\nback [list] C, step [N], over or finish [job CELL], or until PLACE [if CELL < WORD], write CCC [WORD], cell PLACE, interrupt [NAME] or panel: returns to"
         )
     );
     assert!(rt;

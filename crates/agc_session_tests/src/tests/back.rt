@@ -4,8 +4,8 @@ use super::console::{answers, asks, refuses};
 use super::search::TURN;
 use super::session_of;
 use agc_listing::Location;
-use agc_repl::{Command, CommandFault, CommandName, Search};
-use agc_session::Condition;
+use agc_repl::{BackCall, Command, CommandFault, CommandName, Search, StepCall};
+use agc_session::{CallStep, Condition};
 use agc_test_support::RELAY_WORD;
 use agc_word::Narrow;
 use std::process::Abort;
@@ -141,6 +141,32 @@ fn searches_are_read(rt: HostRuntime) {
     searches(&rt, b"back until write 10", any, 1);
     let one = Condition::Write { channel, word };
     searches(&rt, b"back until write 10 44017", one, 1);
+}
+
+#[test]
+fn steps_by_calls_are_read(rt: HostRuntime) {
+    let over = StepCall {
+        step: CallStep::Over,
+        job: None,
+        within: 1_000_000,
+    };
+    asks(&rt, b"over", Command::StepCall(over));
+    let finish = StepCall {
+        step: CallStep::Finish,
+        job: Some(0o100),
+        within: 7,
+    };
+    asks(&rt, b"finish job 0100 within 7", Command::StepCall(finish));
+    let back = BackCall {
+        step: CallStep::Over,
+        job: Some(0o100),
+        lists: true,
+    };
+    asks(&rt, b"back list over job 100", Command::BackCall(back));
+    refuses(&rt, b"over 5", CommandFault::Usage(CommandName::Over));
+    refuses(&rt, b"finish job", CommandFault::Usage(CommandName::Finish));
+    refuses(&rt, b"over job 4000", CommandFault::NotErasable);
+    is_misused(&rt, b"back finish within 5");
 }
 
 #[test]

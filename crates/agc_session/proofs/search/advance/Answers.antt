@@ -15,6 +15,9 @@ returns-in-Order c = rw c.in-Order.is c.pass_to_order.ensures
 pub returns-in-OrderIf : goal.returns-in-OrderIf
 returns-in-OrderIf c = rw c.in-OrderIf.is c.pass_to_order_if.ensures
 
+pub returns-in-Caller : goal.returns-in-Caller
+returns-in-Caller c = rw c.in-Caller.is c.pass_to_caller.ensures
+
 pub returns-in-Cell : goal.returns-in-Cell
 returns-in-Cell c = rw c.in-Cell.is c.pass_to_change.ensures
 
