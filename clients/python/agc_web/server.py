@@ -399,7 +399,8 @@ class Handler(BaseHTTPRequestHandler):
         elif path == "/find":
             self._send_json(found_before(self.server.session, body))
         elif path == "/cause":
-            self._send_json({"line": self.server.session.cause(texts_of(body))})
+            cycle, line = self.server.session.cause(texts_of(body))
+            self._send_json({"cycle": cycle, "line": line})
         else:
             raise BadRequest(HTTPStatus.NOT_FOUND, "there is no such page")
 

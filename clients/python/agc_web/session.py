@@ -533,11 +533,12 @@ class Session:
         return found
 
     @_on_machine
-    def cause(self, texts: List[str]) -> Optional[str]:
-        """Returns the line of the boundary that changed one of these last, as `last_cause` has them; None if nothing has."""
+    def cause(self, texts: List[str]) -> Tuple[int, Optional[str]]:
+        """Returns where the machine stands, and the line of the boundary that changed one of these last, as `last_cause` has them; None if
+        nothing has."""
         texts = checked(texts)
         self._want_console()
-        return last_cause(self.console, self.script(), texts)
+        return self.console.cycle, last_cause(self.console, self.script(), texts)
 
     @_on_machine
     def undo(self, sure: bool = False) -> None:

@@ -30,19 +30,18 @@ async function explain(name, places) {
   if (answer.status !== 200) return;
   const done = places[0].startsWith(WRITES) ? 'written' : 'changed';
   if (answer.line === null) {
-    sayCause(now.cycle, `${name} has not been ${done} since the start.`);
+    sayCause(answer.cycle, `${name} has not been ${done} since the start.`);
     return;
   }
   const { cycle, what } = boundary(answer.line);
   const by = `${name} was last ${done} at ${(cycle / CYCLES_A_SECOND).toFixed(3)} s, cycle ${grouped(cycle)}, by ${doer(what)}.`;
   if (what.startsWith('- event ')) {
-    sayCause(now.cycle, `${by} No order did it. `, buttonTo('Go there', () => goExactly(cycle)));
+    sayCause(answer.cycle, `${by} No order did it. `, buttonTo('Go there', () => goExactly(cycle)));
     return;
   }
   if (!await goExactly(cycle)) return;
   showTab(await loadListing() ? 'source' : 'orders');
   sayCause(cycle, `${by} Time stands before it. `, buttonTo('↶ Undo going back', undo));
-  bringIntoView(find('cause'));
 }
 
 // Names an order, or what else a boundary was, by its line of a trace.
@@ -64,6 +63,7 @@ function buttonTo(text, task) {
 function sayCause(cycle, ...parts) {
   Object.assign(causes, { cycle, isThere: now.cycle === cycle && !now.playing });
   find('cause').replaceChildren(...parts);
+  if (parts.length) bringIntoView(find('cause'));
 }
 
 // Follows the machine: called with all news.

@@ -33,7 +33,8 @@ const session = {
   // The same for {step: 'step'}, or 'over' or 'finish', the console's ways back by boundaries and calls: returns the `cycle`.
 
   // Searches for what changed one of `places` last: "cell PLACE", "panel FIELD", "lamp NAME" or "write CCC" for a channel; the machine
-  // stays where it is. Returns the status, and `line`, the boundary as a trace has it, null if nothing has; or an `error`.
+  // stays where it is. Returns the status, the `cycle` at which it stands, and `line`, the boundary as a trace has it, null if
+  // nothing has; or an `error`.
   cause: (wanted) => post('cause', wanted),
 
   // Returns what the page compares before it shows the source: the text of a listing, and the bytes and the form of the rope.

@@ -9,9 +9,9 @@ const INPUTS = { key: 0o15, pro: 0o32 }; // the channels that events set, beside
 const cycleOf = (line) => Number(line.split(' ', 1)[0]);
 const isWrite = (line) => line.split(' | ')[0].includes(' > ');
 
-// Returns {line}, the line of the boundary, as a trace has it, that changed one of `places` last: "cell PLACE", "panel FIELD", a line of
-// the panel, "lamp NAME", or "write CCC", which an order has written or an event has set. It is null if nothing has. `start`
-// starts a console with the session's script.
+// Returns where the machine stands, and the line of the boundary, as a trace has it, that changed one of `places` last: "cell PLACE",
+// "panel FIELD", a line of the panel, "lamp NAME", or "write CCC", which an order has written or an event has set. The line is null
+// if nothing has. `start` starts a console with the session's script.
 export async function cause(console, start, script, { places }) {
   const texts = checked(places);
   const other = await start();
@@ -19,7 +19,7 @@ export async function cause(console, start, script, { places }) {
     const found = [];
     for (const text of texts) found.push(await causeOf(other, console, script, text));
     const last = (one, line) => (line !== null && (one === null || cycleOf(line) > cycleOf(one)) ? line : one);
-    return { line: found.reduce(last, null) };
+    return { cycle: console.cycle, line: found.reduce(last, null) };
   } finally {
     other.close();
   }
