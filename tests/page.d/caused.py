@@ -33,7 +33,7 @@ def try_cause_line():
     page.close()
 
 
-def try_steps():
+def try_calls():
     """Step, Over and Finish, and back."""
     rope = os.path.join(stepped.folder_of(), 'rope')
     page = LocalPage(LocalSite(rope))
@@ -42,4 +42,4 @@ def try_steps():
     page.close()
 
 
-TRIES = (try_causes, try_cause_line, try_steps)
+TRIES = (try_causes, try_cause_line, try_calls)

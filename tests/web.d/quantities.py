@@ -13,7 +13,7 @@ from site_of import example, started, wait
 from views import opened, see
 
 FOLDER = scratch_folder()
-ROWS = "[...document.querySelectorAll('#quantity-rows tr')].map((row) => [...row.children].map((each) => each.textContent))"
+ROWS = "[...document.querySelectorAll('#quantity-rows tr')].map((row) => [...row.children].slice(0, 3).map((each) => each.textContent))"
 FAULT = "document.getElementById('quantities-fault').textContent"
 MARKUP = '<img/src=x/onerror=window.ran=1>'
 

@@ -100,7 +100,7 @@ def of_steps(window, rope):
         cycle = wanted
 
 
-def try_steps():
+def try_calls():
     """Without instruments; going back asks before it drops a key, and undo brings that back."""
     folder = folder_of()
     site = started(os.path.join(folder, 'rope'))
@@ -128,7 +128,7 @@ def try_steps():
     site.end()
 
 
-def try_steps_ticked():
+def try_calls_ticked():
     """With an instrument that pulses on the way, Over and Finish go where single steps go, with the same events and states."""
     rope = os.path.join(folder_of(), 'rope')
     ends = []
@@ -162,4 +162,4 @@ def step_to(session, console, places):
         session.step()
 
 
-TRIES = (try_steps, try_steps_ticked)
+TRIES = (try_calls, try_calls_ticked)
