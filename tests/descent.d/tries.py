@@ -1752,6 +1752,25 @@ def try_assembler():
     judge("all names have a place", sorted(PLACES), sorted([*named, *channels]))
 
 
+def try_memory():
+    """The page's tables of the memory: the words of each bank, by the other assembler, and the cells that have names."""
+    page = read(os.path.join(folder, "README.md"))
+    again = assembler.Assembler(read(os.path.join(folder, "descent.agc")))
+    again.rope()
+    counted: dict = {}
+    for address in again.words:
+        bank = (address - assembler.FIXED) // 0o2000
+        counted[bank] = counted.get(bank, 0) + 1
+    banks = page.partition("## The banks")[2].partition("\n## ")[0]
+    judge("the words of each bank", counted, {int(bank, 8): int(words) for bank, words in re.findall(r"^\| (\d\d) \| (\d+) \|", banks, re.M)})
+    cells = page.partition("## Erasable memory")[2].partition("\n## ")[0]
+    spans = [(bank, int(low, 8), int(high, 8)) for bank, low, high in re.findall(r"^\| (E\d) (\d+)-(\d+) \|", cells, re.M)]
+    named = {name: (bank, int(offset, 8)) for name, (bank, offset) in ((n, p.split(",")) for n, p in PLACES.items() if p[0] == "E")}
+    judge("there are spans and cells", True, len(spans) > 6 and len(named) > 100)
+    homeless = [name for name, (bank, cell) in named.items() if not any(bank == e and low <= cell <= high for e, low, high in spans)]
+    judge("each cell with a name is in a span of the page", [], homeless)
+
+
 def try_names():
     """Each name of ours in the page's table of names is one of the source, and so is each place that the page names."""
     page = read(os.path.join(folder, "README.md"))
@@ -1805,6 +1824,7 @@ def main():
             (try_abort_keys,),
             (try_abort_without_fuel,),
             (try_names,),
+            (try_memory,),
             (try_keys,),
             (try_uplink,),
             (try_flight_keys,),
