@@ -114,6 +114,26 @@ def try_hand():
     compare("the page by hand", HERE / "hand.agc", wanted)
 
 
+def try_layouts(page):
+    """A page in many layouts, and the same with CR LF, blanks at the ends of lines, bytes in comments, and no last end of a line."""
+    text = (HERE / "layouts.agc").read_bytes()
+    wanted = dict(line.split() for line in (HERE / "layouts.words").read_text().splitlines())
+    compare("the page of layouts", HERE / "layouts.agc", wanted)
+    page.write_bytes(text.replace(b"#", b"#\xff\x80\x00").replace(b"\n", b" \t\r\n").rstrip())
+    compare("the page of layouts with CR LF", page, wanted)
+
+
+def try_offsets(page):
+    """Code that list prints with names is code of the language: an offset is octal, or decimal with its D."""
+    page.write_text("TABLE\t\tEQUALS\t1400\n\t\tSETLOC\t34000\n\t\tDLOAD*\tDSU\n\t\t\tTABLE +10,1\n\t\t\tTABLE +7\n\t\tEXIT\n")
+    rope, names = page.with_name("rope"), page.with_name("names")
+    rope.write_bytes(subprocess.run([STUDY, "weave", page, "--write-names", names], capture_output=True).stdout)
+    span = ["list", rope, "--interpretive", "12,2000-12,2003", "--names", names]
+    done = subprocess.run([STUDY, *span], capture_output=True, text=True)
+    wanted = "12,2000 45343 DLOAD* DSU\n12,2001 01411 TABLE +8D,1\n12,2002 01410 TABLE +7\n12,2003 77776 EXIT\n"
+    judge("list --interpretive with names", (0, wanted, ""), (done.returncode, done.stdout, done.stderr))
+
+
 def try_pages(page):
     used = set()
     for seed, bank in PAGES:
@@ -186,6 +206,8 @@ def main():
     page = Path(folder, "page.agc")
     try_folder(folder)
     try_hand()
+    try_layouts(page)
+    try_offsets(page)
     try_pages(page)
     try_faults(folder)
     try_sound(page)
