@@ -87,6 +87,7 @@ def redesignate(flight):
     """Twice the site is moved farther: the hand controller is pushed for a fifth of a second, which requests RUPT10. Returns by
     how many metres."""
     moved = 0.0
+    flight.site.do('speed', times=1)  # so that a click that comes late moves the site by as much
     for number in (1, 2):
         moved += (float(flight.rows()['To the site'].split(' ')[0]) + moved) / 32
         before = flight.click('Site farther')
