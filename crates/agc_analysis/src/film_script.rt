@@ -72,7 +72,7 @@ function sayPanel(panel) {
 }
 
 // The display in words, below the DSKY of each run, by the file of nouns that the page has in the block `nouns`.
-const { faults, ...found } = readNouns(readName(find('nouns').textContent));
+const { faults, ...found } = readNouns(readName(find('nouns').textContent.slice(LINE.length)));
 Object.assign(nouns, found);
 
 function lineOf(run) {
