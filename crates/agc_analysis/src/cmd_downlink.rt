@@ -151,15 +151,14 @@ fn write_table<W: Write>(
     push_list_heading(&mut text, lists)?;
     write_text(&text, out)?;
     let mut rows: u64 = 0;
-    let mut rest = pairs;
-    while let [_, after @ ..] = rest {
+    for first in 0..pairs.len() {
+        let rest = &pairs[first..];
         if let Some(list) = list_at(lists, rest) {
             text.clear();
             push_list_row(&mut text, lists, list, rest)?;
             write_text(&text, out)?;
             rows = rows.saturating_add(1);
         }
-        rest = after;
     }
     Ok(rows)
 }
