@@ -2,7 +2,6 @@
 #![tactic(auto)]
 
 mod arg_list;
-mod bank_list;
 mod command_line;
 mod jobs;
 mod merge;
@@ -11,7 +10,6 @@ mod restore;
 mod runs;
 mod sample;
 mod shown;
-mod telemetry;
 mod values;
 mod words;
 

@@ -660,7 +660,6 @@ fn filming(files: RunFiles, part: Span, watch: Option<String>) -> FilmArgs {
         part,
         watch,
         names: None,
-        nouns: None,
     }
 }
 
