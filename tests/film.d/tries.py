@@ -593,6 +593,25 @@ def try_unread(tries):
     tries.check('nothing is said of a whole film', '', tries.look("text('trouble')"))
 
 
+def try_words(tries):
+    """With a file of verbs and nouns a line below each DSKY says what it shows."""
+    whole = 'V16 N62: monitor: one 2556.8 m, </script> -46 °C, three 1200'
+    tries.check('the page before it', tries.file('one.html'), tries.file('words.html')[:len(tries.file('one.html'))])
+    tries.open('words.html')
+    for cycle, wanted in [(0, ''), (160000, ''), (200000, 'V16: monitor'), (299999, whole), (200000, 'V16: monitor')]:
+        tries.go(cycle)
+        tries.check(f'the words at {cycle}', wanted, tries.look("text('left-words')"))
+    tries.open('two_words.html')
+    tries.go(299999)
+    tries.check('the words of the left run', whole, tries.look("text('left-words')"))
+    tries.check('the words of the right run', 'V16', tries.look("text('right-words')")[:3])
+    tries.open('bad_words.html')
+    told = 'The file of nouns, line 2: a verb has two digits.'
+    tries.check('what a faulty file says', told, tries.look("text('trouble')").strip())
+    tries.open('one.html')
+    tries.check('no words without a file', None, tries.browser.value("document.getElementById('left-words')"))
+
+
 def try_slider(tries):
     """The slider goes to any cycle while it is dragged, and to the ends."""
     tries.open(tries.page('slider.html', left=run([(1000000, panel(PROG='11'))])))
@@ -672,7 +691,7 @@ def try_playing(tries):
 TRIES = (
     try_constants, try_film, try_changes, try_blocks, try_unpacking, try_long_film, try_remark, try_part, try_tables,
     try_two_films, try_long_names, try_links, try_segments, try_lamps, try_keyboard, try_keys, try_short_run, try_two_runs,
-    try_unread, try_slider, try_speeds, try_playing,
+    try_unread, try_words, try_slider, try_speeds, try_playing,
 )
 
 

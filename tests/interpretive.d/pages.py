@@ -66,7 +66,8 @@ FAULTS = [
     ("NORM;EXIT", NO_PUSH_UP), ("SETPD;EXIT", NO_PUSH_UP), ("DLOAD*;EXIT", NO_PUSH_UP), ("SSP;EXIT", NO_PUSH_UP),
     ("STODL* CELL;EXIT", NO_PUSH_UP), ("CGOTO;EXIT", NO_PUSH_UP),
     ("DAD;STORE CELL", STADR), ("DLOAD DAD;- CELL;STODL CELL", STADR), ("STODL CELL;STORE CELL", STADR),
-    ("STADR;EXIT", STORE), ("DAD STADR;DLOAD", STORE), ("STADR;CAF 4000", STORE),
+    ("STADR;EXIT", STORE), ("DAD STADR;DLOAD", STORE), ("STADR;CAF 4000", STORE), ("STADR SQRT", STORE), ("STADR DLOAD", STORE),
+    ("DLOAD;TC 4000", FEW), ("DLOAD DAD;- CELL;OCT 77777", FEW), ("DAD STADR;2DEC 1", FEW), ("STOVL CELL;COUNT*;OCT 1", FEW),
     ("STORE", OPERAND), ("DLOAD;- CELL +1 +2", OPERAND), ("STORE CELL CELL", OPERAND),
     ("DLOAD;- NOWHERE", NAME), ("STORE NOWHERE", NAME), ("CALL;- NOWHERE +2", NAME),
     ("EXIT;- CELL", MANY), ("VLOAD VXV;- CELL;- CELL;- CELL", MANY), ("STORE CELL;- NOWHERE", MANY), ("DLOAX", ORDER),
@@ -74,7 +75,8 @@ FAULTS = [
 
 # Lines that are taken, with the number of their words.
 SOUND = [
-    ("DLOAD DAD;- CELL", 2), ("DLOAD DAD;- CELL;DDV", 3), ("DAD STADR;STORE CELL", 2), ("DAD STADR;STODL CELL;DLOAD", 3),
+    ("DLOAD DAD;- CELL;EXIT", 3), ("DLOAD DAD;- CELL;DDV;EXIT", 4), ("DAD STADR;STORE CELL", 2), ("DAD STADR;STODL CELL;EXIT", 3),
+    ("DLOAD DAD;COUNT*;UNIT", 2), ("STADR;STOVL CELL;- MASK", 3), ("DLOAD;NAMED;- LOW", 2), ("STORE 3777", 1),
     ("VLOAD VXV;- CELL\t# SO;# A COMMENT;;- LOW", 3), ("DLOAD;- MASK", 2), ("SL*;- 0 -7,2", 2), ("GOTO;- HIGH", 2),
     ("DLOAD;- CELL;EXIT;TC 4000", 4), ("CALL;NAMED;- LOW", 2), ("SSP;- CELL;- -5", 3), ("AXT,1;- 77776", 2),
 ]
@@ -110,6 +112,26 @@ def compare(name, page, wanted):
 def try_hand():
     wanted = dict(line.split() for line in (HERE / "hand.words").read_text().splitlines())
     compare("the page by hand", HERE / "hand.agc", wanted)
+
+
+def try_layouts(page):
+    """A page in many layouts, and the same with CR LF, blanks at the ends of lines, bytes in comments, and no last end of a line."""
+    text = (HERE / "layouts.agc").read_bytes()
+    wanted = dict(line.split() for line in (HERE / "layouts.words").read_text().splitlines())
+    compare("the page of layouts", HERE / "layouts.agc", wanted)
+    page.write_bytes(text.replace(b"#", b"#\xff\x80\x00").replace(b"\n", b" \t\r\n").rstrip())
+    compare("the page of layouts with CR LF", page, wanted)
+
+
+def try_offsets(page):
+    """Code that list prints with names is code of the language: an offset is octal, or decimal with its D."""
+    page.write_text("TABLE\t\tEQUALS\t1400\n\t\tSETLOC\t34000\n\t\tDLOAD*\tDSU\n\t\t\tTABLE +10,1\n\t\t\tTABLE +7\n\t\tEXIT\n")
+    rope, names = page.with_name("rope"), page.with_name("names")
+    rope.write_bytes(subprocess.run([STUDY, "weave", page, "--write-names", names], capture_output=True).stdout)
+    span = ["list", rope, "--interpretive", "12,2000-12,2003", "--names", names]
+    done = subprocess.run([STUDY, *span], capture_output=True, text=True)
+    wanted = "12,2000 45343 DLOAD* DSU\n12,2001 01411 TABLE +8D,1\n12,2002 01410 TABLE +7\n12,2003 77776 EXIT\n"
+    judge("list --interpretive with names", (0, wanted, ""), (done.returncode, done.stdout, done.stderr))
 
 
 def try_pages(page):
@@ -184,6 +206,8 @@ def main():
     page = Path(folder, "page.agc")
     try_folder(folder)
     try_hand()
+    try_layouts(page)
+    try_offsets(page)
     try_pages(page)
     try_faults(folder)
     try_sound(page)

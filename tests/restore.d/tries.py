@@ -9,8 +9,10 @@ import random
 import re
 import subprocess
 
+import banks
 import judge
 import merging
+import patterns
 import sums
 
 BANK = 0o2000
@@ -349,6 +351,7 @@ def sound_ropes(draw):
         sound = draw_rope(draw, draw.sample(range(1, 36), draw.randrange(1, 9)))
         judge.judge(f"sound rope {n}: repairs", ([], ""), repairs(sound))
         report = run("check", "image", "--form", "parity")[0].decode()
+        judge.judge(f"sound rope {n}: patterns", [], patterns.patterns("image", "--form", "parity"))
         for text in ("wrong parity", "in another form", "neither", "(sure"):
             judge.check(f"sound rope {n}: {text}", text not in report)
 
@@ -356,7 +359,8 @@ def sound_ropes(draw):
 def main():
     draw = random.Random(int(os.environ.get("RESTORE_SEED", "69")))
     for group in (single_words, two_that_fit, sums_unknown, stuck_columns, changed_bits, layouts, modules,
-                  moved_modules, repeated_code, parity_bits, sound_ropes, *merging.GROUPS, *sums.GROUPS, merging.five_commands):
+                  moved_modules, repeated_code, parity_bits, sound_ropes, *merging.GROUPS, *sums.GROUPS, *patterns.GROUPS, *banks.GROUPS,
+                  merging.five_commands):
         judge.attempt(group, draw)
     judge.finish()
 

@@ -79,6 +79,8 @@ def try_words_of_keys():
     judge('as it is typed', 'V35: lamp test', see(window, TEXT, 'V35: lamp test'))
     site.do('key', name='ENTR')
     judge('as it is lit', 'V88 N88: eights 88.888 m', see(window, TEXT, 'V88 N88: eights 88.888 m'))
+    film = site.request('GET', '/film')[2]
+    judge('the film has the file', True, '<script type="text/plain" id="nouns">\nverb 35 lamp test\\015\nnoun 88' in film)
     site.end()
     site = started(example('verbs', 'rope'))
     window.load(site.url)

@@ -54,7 +54,7 @@ def serve(
     file = ScriptFile(save) if save is not None else None
     with Ending() as ending:
         session = Session(console, instruments, watch)
-        films = Films(study(), console, form, names, watch)
+        films = Films(study(), console, form, names, watch, texts.get("nouns"))
         ending.kill = lambda: _kill(console, films)
         server = None
         try:

@@ -22,27 +22,31 @@ END = b"</body>"
 PATIENCE = 600  # seconds that a film may take
 LEAVING = 0.5  # seconds in which a film that is broken off removes its files
 TIMELINE = "timeline.html"
+NOUNS = "session.nouns"
 
 
 class Films:
     """Makes films and timelines, one at a time."""
 
     def __init__(
-        self, program: Optional[str], console: Console, form: Optional[str], names: Optional[str] = None, watch: Optional[str] = None
+        self, program: Optional[str], console: Console, form: Optional[str], names: Optional[str] = None, watch: Optional[str] = None,
+        nouns: Optional[str] = None,
     ) -> None:
-        """`program` is agc-study, if there is one. `names` is the file of names, `watch` says where the Executive's tables are."""
+        """`program` is agc-study, if there is one. `names` is the file of names, `watch` says where the Executive's tables are,
+        and `nouns` is the text of the file of verbs and nouns."""
         self._program = program
         self._console = console
         self._form = form
         self._names = names
         self._watch = watch
+        self._nouns = nouns
         self._one_at_a_time = threading.Lock()
         self._process: Optional["subprocess.Popen[bytes]"] = None
         self._closing = False
 
     def make(self, repeat: Repeat, views: Sequence[View] = ()) -> bytes:
         """Returns the page of a film with these views. Raises `Unable` if there is none."""
-        return with_views(self._page(repeat, "film"), views)
+        return with_views(self._page(repeat, "film", ["--nouns", NOUNS] if self._nouns else []), views)
 
     def timeline(self, repeat: Repeat) -> bytes:
         """Returns the page of a timeline of the Executive. Raises `Unable` if there is none."""
@@ -84,6 +88,8 @@ class Films:
         """Makes a page in a folder of its own. Returns what the program printed."""
         with open(os.path.join(folder, "session.script"), "w", encoding="ascii") as file:
             file.write(repeat.script)
+        with open(os.path.join(folder, NOUNS), "w", encoding="utf-8") as file:
+            file.write(self._nouns or "")
         words = [*command, self._rope_in(folder), "session.script", "--limit", str(repeat.limit), *more]
         words += ["--form", self._form] if self._form else []
         self._process = subprocess.Popen(

@@ -72,6 +72,8 @@ error_text (analysis.Undecided count) =
     ++ codes "; --accept writes the rope all the same"
 error_text analysis.EmptyBank =
     codes "a bank of --sum has only words +0, and no last word; agc-study sums prints the others"
+error_text analysis.OtherBanks =
+    codes "the file of --banks has not exactly their words: 2048 bytes a bank"
 
 -- the line of an error
 abbrev pub error_line : AnalysisFault → List ℕ

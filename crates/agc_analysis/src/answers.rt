@@ -6,6 +6,7 @@ ghost use Rattle.agc_analysis.specs.Ended.{EndsWith, LooksForFaults};
 
 use crate::cmd_check::run_check;
 use crate::cmd_compare::run_compare;
+use crate::cmd_downlink::run_downlink;
 use crate::cmd_film::run_film;
 use crate::cmd_jobs::run_jobs;
 use crate::cmd_list::run_list;
@@ -14,6 +15,7 @@ use crate::cmd_profile::run_profile;
 use crate::cmd_restore::{run_convert, run_patch, run_repair, run_sums};
 use crate::cmd_sample::run_sample;
 use crate::cmd_trace::run_trace;
+use crate::cmd_uplink::run_uplink;
 use crate::cmd_weave::run_weave;
 use crate::cmd_words::run_words;
 use crate::fault::FAULTY;
@@ -35,6 +37,8 @@ pub fn last_cycle(args: &Result<Args, ArgsFault>) -> u64 {
         Ok(Args::Film(args)) => args.options.limit.min(args.part.to),
         Ok(
             Args::List(_)
+            | Args::Downlink(_)
+            | Args::Uplink(_)
             | Args::Weave(_)
             | Args::Check(_)
             | Args::Convert(_)
@@ -51,7 +55,7 @@ pub fn last_cycle(args: &Result<Args, ArgsFault>) -> u64 {
 /// Runs the command and returns the exit status. Status 0: the result, or the help text, is on `io.out`, and nothing is
 /// on `io.err`. Status 1: the same, with the report of `check` on a faulty file, or of `compare` on runs that differ.
 /// Status 2: one line, or clap's error text, is on `io.err`, and nothing is on `io.out`. Status 3: a write failed, or a
-/// trace, the tables or the rows of `sample` were cut off. `io.progress` is wiped before the end of the run is reported. `io.remarks` gets a
+/// trace, the tables or the rows of `sample` or `downlink` were cut off. `io.progress` is wiped before the end of the run is reported. `io.remarks` gets a
 /// line beside the result: why a file cannot be read, that a mnemonic of a listing does not match its word, that a
 /// source puts cells over others or over registers, that the run stopped before the range, or that a film is long.
 /// Nothing is opened or remarked if the command line has a mistake.
@@ -102,6 +106,8 @@ where
         Args::Profile(args) => run_profile(rt, args, io),
         Args::Jobs(args) => run_jobs(rt, args, io),
         Args::Sample(args) => run_sample(rt, args, io),
+        Args::Downlink(args) => run_downlink(rt, args, io),
+        Args::Uplink(args) => run_uplink(rt.alloc(), args, io),
         Args::Compare(args) => run_compare(rt, args, io),
         Args::Film(args) => run_film(rt, args, io),
         Args::Convert(args) => run_convert(rt, args, io),

@@ -15,6 +15,7 @@ use agc_listing::Report;
 use agc_load::LoadFault;
 use agc_store::RopeForm;
 use agc_study_args::RunInputs;
+use agc_text::push_patterns;
 use std::alloc::{AllocError, Global};
 use std::io::Read;
 
@@ -91,6 +92,7 @@ fn report_on_rope(
 ) -> Result<Report, AllocError> {
     let Report { mut text, is_sound } = check_rope(alloc, form, file)?;
     push_findings(alloc, &mut text, form, is_placed, file)?;
+    push_patterns(alloc, &mut text, form, is_placed, file)?;
     Ok(Report { text, is_sound })
 }
 

@@ -12,6 +12,7 @@ use agc_check::{
 use agc_io::{OK, ROPE_BYTES, TEXT_BYTES, status_of, write_in_full};
 use agc_listing::push_rope_place;
 use agc_load::LoadFault;
+use agc_mend::{ColumnRepairs, repairs_of_columns};
 use agc_store::RopeForm;
 use agc_store::place::FIXED_BANKS;
 use agc_study_args::{ConvertArgs, ConvertedRope, PatchArgs, RepairArgs, SumsArgs, open_file};
@@ -19,6 +20,10 @@ use agc_word::Narrow;
 use std::alloc::{AllocError, Global};
 use std::io::{Read, Write};
 use std::rt::Files;
+
+/// What a repair that is not sure means.
+const NOT_SURE: &str =
+    "agc-study: after a repair that is not sure, the sum of its bank proves nothing\n";
 
 /// The most words whose parity bits were made right that a remark names, unless all are wanted.
 const MOST_MENDED: usize = 20;
@@ -70,6 +75,14 @@ fn converted_text(
     push_reading(&mut text, args.after, BitChange::Nothing)?;
     let words = made.words;
     write!(text, ": {words} words")?;
+    let wrong = made.wrong;
+    if wrong > 0 {
+        write!(text, "; {wrong} with wrong parity, kept")?;
+    }
+    if let Some(dropped) = made.dropped {
+        let word = word_of(dropped);
+        write!(text, "; left out {word}")?;
+    }
     if made.mended.is_empty() {
         text.push_str("\n")?;
     } else {
@@ -112,10 +125,10 @@ where
     ensures faulty { result ≢ 1 }
 {
     let mut rope = open_file(rt, &args.rope, ROPE_BYTES);
-    let status = match found_repairs(rt.alloc(), args, &mut rope) {
-        Ok(found) => {
-            remark_repairs(rt.alloc(), &found, &mut io.remarks);
-            status_of(OK, write_in_full(&mut io.out, found.text.as_bytes()))
+    let status = match printed_repairs(rt.alloc(), args, &mut rope) {
+        Ok(printed) => {
+            let _written = io.remarks.write_all(printed.remark.as_bytes());
+            status_of(OK, write_in_full(&mut io.out, printed.text.as_bytes()))
         }
         Err(fault) => fault.report_to(&mut io.err),
     };
@@ -123,11 +136,48 @@ where
     status
 }
 
-/// Reports what the repairs rest on, and whether words have none.
-fn remark_repairs<N: Write>(alloc: Global, found: &FileRepairs, remarks: &mut N) {
-    if let Ok(text) = repairs_remark(alloc, found) {
-        let _written = remarks.write_all(text.as_bytes());
+/// The repairs of a rope file.
+#[derive(Drop)]
+struct PrintedRepairs {
+    /// The lines of a patch.
+    text: String,
+    /// What the repairs rest on, and whether words have none.
+    remark: String,
+}
+
+/// Returns the repairs of a rope file in the form with parity: those of words in stuck columns with `--stuck`, else those of
+/// single words.
+fn printed_repairs<R: Read>(
+    alloc: Global,
+    args: &RepairArgs,
+    reader: &mut R,
+) -> Result<PrintedRepairs, AnalysisFault> {
+    let bytes = read_banks(alloc, RopeForm::Parity, args.first_bank, reader)?;
+    let file = bytes.as_slice();
+    if args.mends_columns {
+        let found = repairs_of_columns(alloc, file).map_err(no_memory)?;
+        refuse_no_parity(args, found.wrong, file)?;
+        let remark = columns_remark(alloc, &found).map_err(no_memory)?;
+        let text = found.text;
+        return Ok(PrintedRepairs { text, remark });
     }
+    let found = found_repairs(alloc, args, file)?;
+    let remark = repairs_remark(alloc, &found).map_err(no_memory)?;
+    let text = found.text;
+    Ok(PrintedRepairs { text, remark })
+}
+
+fn columns_remark(alloc: Global, found: &ColumnRepairs) -> Result<String, AllocError> {
+    let mut text = String::new(alloc);
+    let (wrong, repaired) = (found.wrong, found.repaired);
+    writeln!(
+        text,
+        "agc-study: {wrong} words with wrong parity: {repaired} are where a bit is stuck, and are repaired"
+    )?;
+    if repaired > 0 {
+        text.push_str(NOT_SURE)?;
+    }
+    Ok(text)
 }
 
 fn repairs_remark(alloc: Global, found: &FileRepairs) -> Result<String, AllocError> {
@@ -144,30 +194,32 @@ fn repairs_remark(alloc: Global, found: &FileRepairs) -> Result<String, AllocErr
         )?;
     }
     if found.has_unsure {
-        text.push_str(
-            "agc-study: after a repair that is not sure, the sum of its bank proves nothing\n",
-        )?;
+        text.push_str(NOT_SURE)?;
     }
     Ok(text)
 }
 
-/// Returns the repairs of a rope file in the form with parity. Without `--form parity`, refuses a file with wrong parity
-/// whose parity bits are all 0: it is probably in the classic form. Refuses a file with more wrong words than a damage of
-/// single words makes.
-fn found_repairs<R: Read>(
+/// Refuses a file with wrong parity whose parity bits are all 0, without `--form parity`: it is probably in the classic form.
+fn refuse_no_parity(args: &RepairArgs, wrong: usize, file: &[u8]) -> Result<(), AnalysisFault> {
+    if wrong > 0 && !args.has_parity && !has_parity_bit(file) {
+        Err(AnalysisFault::NoParity)
+    } else {
+        Ok(())
+    }
+}
+
+/// Returns the repairs of single words. Refuses a file with more wrong words than a damage of single words makes.
+fn found_repairs(
     alloc: Global,
     args: &RepairArgs,
-    reader: &mut R,
-) -> Result<FileRepairs, AnalysisFault> {
-    let bytes = read_banks(alloc, RopeForm::Parity, args.first_bank, reader)?;
-    let file = bytes.as_slice();
+    file: &[u8],
+) -> Result<FileRepairs, AnalysisFault>
+    requires { length file.now % 2 ≡ 0 }
+{
     let is_placed = args.first_bank.is_some() || !may_be_modules(file.len());
-    let Ok(found) = file_repairs(alloc, file, is_placed, args.most) else {
-        return Err(AnalysisFault::Refused(LoadFault::Memory));
-    };
-    if found.wrong > 0 && !args.has_parity && !has_parity_bit(file) {
-        Err(AnalysisFault::NoParity)
-    } else if found.damage == Damage::Layout {
+    let found = file_repairs(alloc, file, is_placed, args.most).map_err(no_memory)?;
+    refuse_no_parity(args, found.wrong, file)?;
+    if found.damage == Damage::Layout {
         Err(AnalysisFault::OtherLayout)
     } else {
         Ok(found)
@@ -220,7 +272,10 @@ fn write_patched<R: Read, T: Read, W: Write, E: Write, N: Write, P>(
     ensures faulty { result ≢ 1 }
 {
     match patched_rope(alloc, args, rope, patch) {
-        Ok(file) => status_of(OK, write_in_full(&mut io.out, file.as_slice())),
+        Ok(made) => {
+            let _written = io.remarks.write_all(made.changes.as_bytes());
+            status_of(OK, write_in_full(&mut io.out, made.file.as_slice()))
+        }
         Err(fault) => fault.report_to(&mut io.err),
     }
 }

@@ -47,6 +47,8 @@ pub enum AnalysisFault {
     Undecided(usize),
     /// A bank of `--sum` has no words.
     EmptyBank,
+    /// The second file of `patch --banks` has not as many banks as are named.
+    OtherBanks,
 }
 
 impl AnalysisFault {
@@ -152,6 +154,9 @@ impl fmt::Display for AnalysisFault {
             ),
             AnalysisFault::EmptyBank => f.write_str(
                 "a bank of --sum has only words +0, and no last word; agc-study sums prints the others",
+            ),
+            AnalysisFault::OtherBanks => f.write_str(
+                "the file of --banks has not exactly their words: 2048 bytes a bank",
             ),
         }
     }

@@ -13,9 +13,11 @@ use agc_check::{
 use agc_io::{ROPE_BYTES, ReadError, TEXT_BYTES, read_limited};
 use agc_listing::WeaveFault;
 use agc_load::LoadFault;
-use agc_store::place::{FIXED_BANKS, FIXED_WORDS};
+use agc_mend::with_banks;
+use agc_store::place::{FIXED_BANK_SIZE, FIXED_BANKS, FIXED_WORDS};
 use agc_store::{RopeFault, RopeForm, Store};
 use agc_study_args::{ConvertArgs, ConvertedRope, ListArgs, PatchArgs, convert_rope};
+use agc_text::push_bank_changes;
 use agc_trace::LineForm;
 use std::alloc::{AllocError, Global};
 use std::io::Read;
@@ -100,29 +102,85 @@ pub(crate) fn converted_rope<R: Read>(
     convert_rope(alloc, args, file.as_slice()).map_err(refused)
 }
 
-/// Applies a patch to a rope file, and makes the sums of banks right. Returns the file, or the fault of the rope, of the
-/// patch's first faulty line, or of a bank.
+/// A rope file that was patched.
+#[derive(Drop)]
+pub(crate) struct PatchedRope {
+    pub file: Vec<u8>,
+    /// For `--banks`, how many words changed in each bank.
+    pub changes: String,
+}
+
+/// Applies a patch to a rope file, or puts banks into it, and makes the sums of banks right. Returns the file, or the fault of
+/// the rope, of the patch's first faulty line, or of a bank.
 pub(crate) fn patched_rope<R: Read, T: Read>(
     alloc: Global,
     args: &PatchArgs,
     rope: &mut R,
     patch: &mut T,
-) -> Result<Vec<u8>, AnalysisFault> {
+) -> Result<PatchedRope, AnalysisFault> {
     let file = read_rope_bytes(alloc, rope)?;
-    let text = match read_limited(alloc, patch, TEXT_BYTES) {
-        Ok(text) => text,
+    let bytes = match read_limited(alloc, patch, TEXT_BYTES) {
+        Ok(bytes) => bytes,
         Err(ReadError::CannotRead(_)) => return Err(AnalysisFault::CannotReadText),
         Err(ReadError::Memory) => return Err(AnalysisFault::Refused(LoadFault::Memory)),
     };
     let words = file_words(alloc, file.as_slice()).map_err(no_memory)?;
-    match apply_patch(alloc, args.form, words.as_slice(), text.as_slice()) {
-        Ok(patched) => summed_file(alloc, args, patched),
+    if args.banks.is_empty() {
+        let patched = patched_words(alloc, args.form, words.as_slice(), bytes.as_slice())?;
+        return Ok(PatchedRope {
+            file: summed_file(alloc, args, patched)?,
+            changes: String::new(alloc),
+        });
+    }
+    let patched = words_with_banks(alloc, args, words.as_slice(), bytes.as_slice())?;
+    let mut changes = String::new(alloc);
+    push_bank_changes(
+        &mut changes,
+        args.form,
+        words.as_slice(),
+        patched.as_slice(),
+    )
+    .map_err(no_memory)?;
+    Ok(PatchedRope {
+        file: summed_file(alloc, args, patched)?,
+        changes,
+    })
+}
+
+/// Returns the words of a rope file with those of a patch.
+fn patched_words(
+    alloc: Global,
+    form: RopeForm,
+    words: &[u16],
+    text: &[u8],
+) -> Result<Vec<u16>, AnalysisFault> {
+    match apply_patch(alloc, form, words, text) {
+        Ok(patched) => Ok(patched),
         Err(WeaveFault::Line(line, fault)) => Err(AnalysisFault::Text(AssemblyFault::Line(
             line,
             SourceFault::Listed(fault),
         ))),
         Err(WeaveFault::Memory) => Err(AnalysisFault::Refused(LoadFault::Memory)),
     }
+}
+
+/// Returns the words of a rope file with those of another file in the banks of `--banks`.
+fn words_with_banks(
+    alloc: Global,
+    args: &PatchArgs,
+    words: &[u16],
+    file: &[u8],
+) -> Result<Vec<u16>, AnalysisFault> {
+    let banks = args.banks.as_slice();
+    let bytes = banks.len().saturating_mul(2 * FIXED_BANK_SIZE as usize);
+    if file.len() != bytes || banks.len() > usize::from(FIXED_BANKS) {
+        return Err(AnalysisFault::OtherBanks);
+    }
+    if words.len() > FIXED_WORDS as usize {
+        return Err(refused(RopeFault::TooLong));
+    }
+    let put = file_words(alloc, file).map_err(no_memory)?;
+    with_banks(alloc, args.form, banks, put.as_slice(), words).map_err(no_memory)
 }
 
 /// Returns the file of these words, after the sums of the banks of `--sum` are made right.

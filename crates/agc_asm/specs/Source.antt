@@ -2,7 +2,7 @@
 use Rattle.std.specs.Prelude.{◌≡◌, ◌<◌, ◌==◌, ℕ, zero, suc, ◌+◌, ◌/◌, nat_lt, Bool, true, false, not, ◌&&◌, ◌∷◌, List, [], length}
 use Rattle.std.specs.Prelude.{Option, Some, None, Result, Ok, Err, is_some, if◌then◌else◌, IfSome}
 use Rattle.std.specs.List.{list_all, list_any}
-use Rattle.agc_interpretive.specs.Pending.{fault_at_end}
+use Rattle.agc_interpretive.specs.Pending.{fault_at_end, fault_before_basic}
 use Rattle.agc_interpretive.specs.declared.fault.Fault.{Fault}
 use Rattle.agc_interpretive.specs.declared.pending.Pending.{Pending}
 use Rattle.agc_word.specs.Number.{Number, number_from_pattern}
@@ -342,8 +342,15 @@ leaves_due kind.Sbank = true
 leaves_due kind.Nothing = true
 leaves_due s = false
 
+-- Before words nothing is popped. Behind a move a pair may stand.
+abbrev pub writes_words : LineKind → Bool
+writes_words kind.Word = true
+writes_words kind.Pair = true
+writes_words s = false
+
 abbrev pub fault_before : Pending → Result LineKind SourceFault → Option Fault
-fault_before due (Ok s) = if leaves_due s then None else fault_at_end due false
+fault_before due (Ok s) =
+    if leaves_due s then None else (if writes_words s then fault_before_basic due else fault_at_end due false)
 fault_before due (Err why) = None
 
 abbrev pub unless_missing : Option Fault → Result Step SourceFault → Result Step SourceFault

@@ -33,6 +33,7 @@ ghost use Rattle.agc_asm.specs.Source.{
   spoken_at,
   spoken_in_rope,
   spoken_state,
+  writes_words,
 };
 ghost use Rattle.agc_asm.specs.LineKind.{counter_after};
 ghost use Rattle.agc_asm.specs.LocationCounter.{room_at, IsAt, after_cells};
@@ -57,6 +58,7 @@ use crate::operand::location_in;
 use crate::operation::Operation;
 use crate::role::{Role, due_behind, role_of};
 use crate::source_line::SourceLine;
+use agc_interpretive::{Fault, Pending};
 use agc_listing::{PlacedWord, RopeBuilder, next_is_extracode, read_line};
 use agc_store::place::{ERASABLE_BANK_SIZE, FIXED_FIXED};
 use agc_word::Narrow;
@@ -258,12 +260,29 @@ fn basic_woven(names: &Names, state: State, operation: &Operation) -> Result<Ste
     ensures placed { IfOk result IsPlaced }
 {
     let kind = kind_of(names, operation)?;
-    if !leaves_due(kind) {
-        if let Some(fault) = state.counter.due.fault_at_end(false) {
-            return Err(SourceFault::Interpretive(fault));
-        }
+    if let Some(fault) = fault_before(&state.counter.due, kind) {
+        return Err(SourceFault::Interpretive(fault));
     }
     shape_woven(names, state, operation, kind)
+}
+
+/// Returns the fault of a line of the basic language before which operands or a store are due.
+fn fault_before(due: &Pending, kind: LineKind) -> Option<Fault>
+    ensures { result ≡ fault_before due.now (Ok kind) }
+{
+    if leaves_due(kind) {
+        None
+    } else if writes_words(kind) {
+        due.fault_before_basic()
+    } else {
+        due.fault_at_end(false)
+    }
+}
+
+fn writes_words(kind: LineKind) -> bool
+    ensures { result ≡ writes_words kind }
+{
+    matches!(kind, LineKind::Word | LineKind::Pair)
 }
 
 /// Returns whether a line neither writes words nor moves to another place, and so leaves what is due.

@@ -139,13 +139,19 @@ abbrev pub has_store : Operation → Option Operation → Bool
 has_store l None = is_store l.form
 has_store l (Some r) = is_store l.form || is_store r.form
 
+-- the store behind STADR comes first, so an operation at its right would never be done
+abbrev pub has_stadr_first : Operation → Option Operation → Bool
+has_stadr_first l r = l.code == stadr_code && is_some r
+
 abbrev pub coded_pair : Option ℕ → Result ℕ Fault
 coded_pair (Some word) = Ok word
 coded_pair None = Err fault.BadPair
 
--- a line of one or two operations; a store is none
+-- a line of one or two operations; a store is none, and STADR is the last one
 unfoldable pub pair_line : Operation → Option Operation → Result ℕ Fault
-pair_line l r = if has_store l r then Err fault.BadPair else coded_pair (pair_word (code_of l) (right_code r))
+pair_line l r =
+    if has_store l r then Err fault.BadPair
+    else (if has_stadr_first l r then Err fault.StoreWanted else coded_pair (pair_word (code_of l) (right_code r)))
 
 -- what is due behind such a line, or behind a store
 abbrev pub behind : Operation → Option Operation → Pending
@@ -204,6 +210,12 @@ fault_at_end p is_store_next =
     if not (may_miss p.first && may_miss p.second && may_miss p.third && may_miss p.fourth) then Some (missing p.first)
     else (if is_some p.first && is_store_next && not p.is_behind_stadr then Some fault.NoStadr
     else (if p.is_behind_stadr && not is_store_next then Some fault.StoreWanted else None))
+
+-- Before a word of the basic language nothing is popped: the interpreter wants a negative word there, a pair.
+abbrev pub fault_before_basic : Pending → Option Fault
+fault_before_basic p =
+    if is_some p.first then Some (missing p.first)
+    else (if p.is_behind_stadr then Some fault.StoreWanted else None)
 
 -- A line is an operand if one is due and its first word stands at the operand's column or is no operation, basic or
 -- interpretive. The column, counted from 0 with tabs of eight, is from memory, not checked.

@@ -4,6 +4,7 @@ ghost use Rattle.agc_interpretive.specs.Jump.{is_store};
 ghost use Rattle.agc_interpretive.specs.Pending.{
   code_of,
   dues_of,
+  has_stadr_first,
   has_store,
   in_order,
   load_due,
@@ -32,8 +33,9 @@ const OPERAND_COLUMN: usize = 24;
 /// The operands that are due, in order, and whether STADR was the last operation.
 ///
 /// A reader of lines begins with `NOTHING`. A line that `takes_line` is an operand: `operand_line` is its word, `rest` what
-/// is due behind it. Before any other line `fault_at_end` says whether what is due may be left out. Then a store has the
-/// word `store_line`, another operation `pair_line`; `behind` either is what is due. Behind any other line `NOTHING` is.
+/// is due behind it. Before any other line `fault_at_end` says whether what is due may be left out, before a word of the
+/// basic language `fault_before_basic`. Then a store has the word `store_line`, another operation `pair_line`; `behind`
+/// either is what is due. Behind any other line `NOTHING` is.
 #[derive(Clone, Copy, Debug, PartialEq, Eq)]
 pub struct Pending {
     pub first: Option<Due>,
@@ -48,6 +50,7 @@ impl Pending {
     ghost use Rattle.agc_interpretive.specs.Pending.{
       behind,
       fault_at_end,
+      fault_before_basic,
       operand_line,
       pair_line,
       rest_of,
@@ -88,6 +91,20 @@ impl Pending {
         } else if self.first.is_some() && is_store_next && !self.is_behind_stadr {
             Some(Fault::NoStadr)
         } else if self.is_behind_stadr && !is_store_next {
+            Some(Fault::StoreWanted)
+        } else {
+            None
+        }
+    }
+
+    /// Returns the fault of a word of the basic language, if an operand or a store is due before it. Nothing is popped there:
+    /// the interpreter pops if the next word is negative, a pair.
+    pub fn fault_before_basic(&self) -> Option<Fault>
+        ensures { result ≡ fault_before_basic self.now }
+    {
+        if self.first.is_some() {
+            Some(missing(self.first))
+        } else if self.is_behind_stadr {
             Some(Fault::StoreWanted)
         } else {
             None
@@ -141,6 +158,9 @@ impl Pending {
         if has_store(left, right) {
             return Err(Fault::BadPair);
         }
+        if has_stadr_first(left, right) {
+            return Err(Fault::StoreWanted);
+        }
         match pair_word(code_of(left), right_code(right)) {
             Some(word) => Ok(word),
             None => Err(Fault::BadPair),
@@ -165,6 +185,13 @@ fn has_store(left: Operation, right: Option<Operation>) -> bool
         None => is_store(left),
         Some(right) => is_store(left) || is_store(right),
     }
+}
+
+/// Returns whether STADR has an operation at its right, which would never be done.
+fn has_stadr_first(left: Operation, right: Option<Operation>) -> bool
+    ensures { result ≡ has_stadr_first left right }
+{
+    left.code == STADR && right.is_some()
 }
 
 fn right_code(right: Option<Operation>) -> Option<u16>

@@ -12,8 +12,8 @@ use Rattle.agc_machine.specs.declared.answer.Stepped.TheVariants as stepped
 use Rattle.agc_machine.specs.declared.answer.Stop.{Stop}
 use Rattle.agc_machine.proofs.Before.{fewer_after_way, next_at_way_write}
 use Rattle.agc_machine.proofs.Chain.{boundary_falls, fewer_after_write}
-use Rattle.agc_quantities.specs.Due.{earliest, is_due, is_first, next_multiple}
-use Rattle.agc_quantities.specs.Walk.{Finds, IsFirst, has_reached, resumed}
+use Rattle.agc_quantities.specs.Due.{earliest, is_due, is_first}
+use Rattle.agc_quantities.specs.Walk.{Finds, IsFirst, has_reached}
 use Rattle.agc_quantities.specs.declared.sample.Sample.{Sample}
 use Rattle.agc_quantities.specs.declared.sampler.Plan.{Plan}
 use Rattle.agc_quantities.specs.declared.sampler.Schedule.{Schedule}

@@ -4,3 +4,6 @@ pub mod Cells
 pub mod Sample
 pub mod Due
 pub mod Walk
+pub mod Sent
+pub mod SentList
+pub mod Uplink

@@ -1,11 +1,11 @@
-//! The faults of a file of quantities.
+//! The faults of a file of quantities, and of a file of lists.
 ghost use Rattle.std.specs.Prelude.{◌≡◌};
 ghost use Rattle.agc_quantities.specs.declared.fault.QuantitiesFault.TheVariants as fault;
 
 use std::alloc::AllocError;
 use thiserror::Error;
 
-/// The fault of a line. The faults are checked in this order.
+/// The fault of a line. Those of a file of quantities are checked in this order.
 #[derive(Clone, Copy, Debug, Error)]
 pub enum LineFault {
     #[error("too few fields: a line is NAME PLACE KIND SCALE, and a unit if you like")]
@@ -32,14 +32,24 @@ pub enum LineFault {
     BadUnit,
     #[error("more than 64 columns; a vector has three")]
     TooManyColumns,
+    #[error("a list begins by list NAME WORD WORD, with words of five octal digits")]
+    BadList,
+    #[error("an earlier list begins by these words")]
+    ListTwice,
+    #[error("a quantity comes before the first list")]
+    NoList,
+    #[error("a place is the number of a word in the list, 0 to 999")]
+    BadNumber,
+    #[error("more than 4096 columns; a vector has three")]
+    TooManyInLists,
 }
 
-/// Why there are no quantities.
+/// Why there are no quantities, or no lists.
 #[derive(Clone, Copy)]
 pub enum QuantitiesFault {
     /// The line with this number, counted from 1, has this fault.
     Line(usize, LineFault),
-    /// No line has a quantity.
+    /// No line has a quantity, or no list has one.
     Nothing,
     /// Out of memory.
     Memory,

@@ -42,11 +42,7 @@ pub(crate) fn read_line<'a>(
     let name = read_name(fields.name, earlier)?;
     let cell = read_cell(names, fields.place)?;
     let kind = read_kind(fields.kind, fields.scale)?;
-    if kind.is_vector()
-        && earlier
-            .iter()
-            .any(|other| is_column(fields.name, other.name.as_bytes()))
-    {
+    if earlier.iter().any(|other| is_taken(fields.name, kind, other.name.as_bytes(), other.kind)) {
         return Err(LineFault::NameTwice);
     }
     if cell % ERASABLE_BANK_SIZE + kind.size() > ERASABLE_BANK_SIZE {
@@ -59,7 +55,7 @@ pub(crate) fn read_line<'a>(
 }
 
 /// Returns the part of a line before its comment.
-fn without_comment(line: &[u8]) -> &[u8] {
+pub(crate) fn without_comment(line: &[u8]) -> &[u8] {
     match line.iter().position(|b| *b == b'#') {
         Some(at) => &line[..at],
         None => line,
@@ -112,6 +108,13 @@ fn read_name<'a>(word: &'a [u8], earlier: &[Quantity]) -> Result<&'a str, LineFa
 fn has_name(quantity: &Quantity, word: &[u8]) -> bool {
     let name = quantity.name.as_bytes();
     name == word || quantity.kind.is_vector() && is_column(name, word)
+}
+
+/// Returns whether a quantity has the name or a column of another one.
+pub(crate) fn is_taken(name: &[u8], kind: Kind, other: &[u8], other_kind: Kind) -> bool {
+    name == other
+        || other_kind.is_vector() && is_column(other, name)
+        || kind.is_vector() && is_column(name, other)
 }
 
 /// Returns whether a name is that of a column of a vector: the vector's, and `.x`, `.y` or `.z`.

@@ -1,7 +1,7 @@
 //! `agc-study`: inspects ropes and runs. `list` disassembles a rope, `weave` assembles a text into a rope, `check`
 //! reports what is wrong with a rope and a script, `trace` prints what a run does, boundary by boundary, `profile`
 //! how often and how long each word runs, `jobs` how the Executive's tables change, `sample` what quantities of the
-//! program are worth over time, `compare` shows where two runs
+//! program are worth over time, `downlink` what it sends, `uplink` prints keys as a script, `compare` shows where two runs
 //! diverge, and `film` renders the display over time.
 #![tactic(auto)]
 

@@ -17,6 +17,8 @@ pub enum Args {
     Profile(ProfileArgs),
     Jobs(JobsArgs),
     Sample(SampleArgs),
+    Downlink(DownlinkArgs),
+    Uplink(UplinkArgs),
     Compare(CompareArgs),
     Film(FilmArgs),
     Convert(ConvertArgs),
@@ -182,6 +184,27 @@ pub struct SampleArgs {
     pub shows_minus_zero: bool,
 }
 
+/// Arguments of `downlink`: a log, and the lists that it has.
+#[derive(Debug, Drop)]
+pub struct DownlinkArgs {
+    /// The file of lists.
+    pub lists: String,
+    /// What `agc --log` has printed.
+    pub log: String,
+}
+
+/// Arguments of `uplink`: keys to send from the ground, and when.
+#[derive(Debug, Drop)]
+pub struct UplinkArgs {
+    pub keys: String,
+    /// The cycle of the first bit (`--from`).
+    pub from: u64,
+    /// The cycles from key to key (`--every`).
+    pub every: u64,
+    /// The cycles from bit to bit (`--bits`).
+    pub bits: u64,
+}
+
 /// Arguments of `compare`: two runs.
 #[derive(Debug, Drop)]
 pub struct CompareArgs {
@@ -220,6 +243,8 @@ pub struct FilmArgs {
     pub watch: Option<String>,
     /// The symbol file (`--names`).
     pub names: Option<String>,
+    /// The file of verbs and nouns, for the display in words (`--nouns`).
+    pub nouns: Option<String>,
 }
 
 /// Arguments of `convert`: a rope file, its reading, and that of the result.
@@ -234,8 +259,23 @@ pub struct ConvertArgs {
     pub ignores_parity: bool,
     /// The bank of the file's first word (`--first-bank`), if the file is some modules of a rope.
     pub first_bank: Option<u8>,
+    /// By how much all words of the file are in wrong places, which is undone (`--moved`).
+    pub moved: Moved,
+    /// The banks to write, in this order; at most 36. `NO_BANK` is a bank without words. All banks if there are none.
+    pub banks: Vec<u8>,
     /// Whether all words whose parity bits were made right are printed, not only twenty (`--all`).
     pub shows_all: bool,
+}
+
+/// Where the words of a file are.
+#[derive(Clone, Copy, Debug, PartialEq, Eq)]
+pub enum Moved {
+    /// In their places.
+    Nowhere,
+    /// One place on: the first word of the file is none of the rope.
+    On,
+    /// One place back: the first word of the rope is lost.
+    Back,
 }
 
 /// Arguments of `repair`: a rope file in the form with parity.
@@ -246,6 +286,8 @@ pub struct RepairArgs {
     pub most: usize,
     /// Whether the file has parity bits even if none of them is 1 (`--form parity`).
     pub has_parity: bool,
+    /// Whether the words of stuck columns are repaired, and no others (`--stuck`).
+    pub mends_columns: bool,
     /// The bank of the file's first word (`--first-bank`), if the file is some modules of a rope.
     pub first_bank: Option<u8>,
 }
@@ -254,8 +296,10 @@ pub struct RepairArgs {
 #[derive(Debug, Drop)]
 pub struct PatchArgs {
     pub rope: String,
-    /// The text file of the words, a line for each.
+    /// The text file of the words, a line for each; with `banks` the rope file of their words.
     pub patch: Option<String>,
+    /// The banks into which the words of the other file are put (`--banks`).
+    pub banks: Vec<u8>,
     /// The banks whose sums are made right after that (`--sum`).
     pub sums: Vec<u8>,
     pub form: RopeForm,

@@ -1,10 +1,14 @@
-//! Converts a rope file to another reading.
-use crate::args::{ConvertArgs, DumpArgs};
+//! Converts a rope file to another reading, or writes some of its banks.
+ghost use Rattle.std.specs.Prelude.{◌<◌};
+ghost use Rattle.agc_store.specs.Places.{fixed_words};
+
+use crate::args::{ConvertArgs, DumpArgs, Moved};
 use agc_check::{
     BadWord, BitChange, Dump, ParityBit, Reading, bad_words, convert, file_of_words, file_words,
     right_words, undo_bit_change, words_in_banks,
 };
-use agc_store::place::{FIXED_WORDS, bank_of, offset_of};
+use agc_mend::{NO_BANK, words_of_banks};
+use agc_store::place::{FIXED_BANK_SIZE, FIXED_BANKS, FIXED_WORDS, bank_of, offset_of};
 use agc_store::{RopeFault, RopeForm, index_in_file};
 use std::alloc::{AllocError, Global};
 
@@ -16,29 +20,105 @@ pub struct ConvertedRope {
     pub words: usize,
     /// The words whose parity bits were wrong and are right now, with their places in the rope.
     pub mended: Vec<BadWord>,
+    /// The number of words whose parity is wrong still.
+    pub wrong: usize,
+    /// The word that `--moved` left out, if it is not 0: the first one of the file, or the last one of a whole rope.
+    pub dropped: Option<u16>,
 }
 
-/// Converts a rope file to another reading. A word with wrong parity is a fault, unless parity is ignored.
+/// Converts a rope file to another reading. A word with wrong parity is a fault, unless parity is ignored, or some banks are
+/// copied with their parity bits.
 pub fn convert_rope(
     alloc: Global,
     args: &ConvertArgs,
     file: &[u8],
 ) -> Result<ConvertedRope, RopeFault> {
-    let plain = plain_reading(args.before, args.before.order);
     let words = words_of_file(alloc, args.before, args.change, args.first_bank, file)?;
-    let words = convert_words(alloc, args.before, plain, words.as_slice())?;
-    let mended = wrong_words(alloc, args, words.as_slice())?;
-    let words = if mended.is_empty() {
-        words
+    let dropped = dropped_word(args, words.as_slice());
+    let words = moved_words(alloc, args.moved, words).map_err(no_memory)?;
+    let words = picked_words(alloc, args, words)?;
+    let (before, after) = readings_of(args);
+    let plain = plain_reading(before, before.order);
+    let words = convert_words(alloc, before, plain, words.as_slice())?;
+    let bad = wrong_words(alloc, args, words.as_slice())?;
+    let (words, mended, wrong) = if copies_parity(args) {
+        (words, Vec::new(alloc), bad.len())
+    } else if bad.is_empty() {
+        (words, bad, 0)
     } else {
-        right_words(alloc, words.as_slice()).map_err(no_memory)?
+        let right = right_words(alloc, words.as_slice()).map_err(no_memory)?;
+        (right, bad, 0)
     };
-    let words = convert_words(alloc, plain, args.after, words.as_slice())?;
+    let words = convert_words(alloc, plain, after, words.as_slice())?;
     Ok(ConvertedRope {
         file: file_of_words(alloc, words.as_slice()).map_err(no_memory)?,
         words: words.len(),
         mended,
+        wrong,
+        dropped,
     })
+}
+
+/// Returns the word that `--moved` leaves out, if it is not 0.
+fn dropped_word(args: &ConvertArgs, words: &[u16]) -> Option<u16> {
+    let left_out = match args.moved {
+        Moved::Nowhere => None,
+        Moved::On => words.first(),
+        Moved::Back => words.get(FIXED_WORDS as usize - 1),
+    };
+    left_out.copied().filter(|word| *word != 0)
+}
+
+/// Returns the words of a file with their move by one place undone.
+fn moved_words(alloc: Global, moved: Moved, words: Vec<u16>) -> Result<Vec<u16>, AllocError> {
+    match moved {
+        Moved::Nowhere => Ok(words),
+        Moved::On => {
+            let mut new: Vec<u16> = words.as_slice().iter().skip(1).copied().collect(alloc)?;
+            new.push(0)?;
+            Ok(new)
+        }
+        Moved::Back => {
+            let mut new = Vec::new(alloc);
+            new.push(0)?;
+            for word in words.as_slice().iter().take(FIXED_WORDS as usize - 1) {
+                new.push(*word)?;
+            }
+            Ok(new)
+        }
+    }
+}
+
+/// Returns the words of the banks of `--banks`, if there are any, else all words.
+fn picked_words(alloc: Global, args: &ConvertArgs, words: Vec<u16>) -> Result<Vec<u16>, RopeFault> {
+    let banks = args.banks.as_slice();
+    if banks.is_empty() || banks.len() > usize::from(FIXED_BANKS) {
+        return Ok(words);
+    }
+    words_of_banks(alloc, args.before.order, banks, words.as_slice()).map_err(no_memory)
+}
+
+/// Returns the readings before and after. Banks that `--banks` names are one after the other, and so are those of the result,
+/// unless they are all 36.
+fn readings_of(args: &ConvertArgs) -> (Reading, Reading) {
+    let count = args.banks.len();
+    let by_bank = RopeForm::Parity;
+    let mut readings = (args.before, args.after);
+    if count > 0 {
+        readings.0.order = by_bank;
+    }
+    if count > 0 && count < usize::from(FIXED_BANKS) {
+        readings.1.order = by_bank;
+    }
+    readings
+}
+
+/// Returns whether parity bits are copied, right or wrong.
+fn copies_parity(args: &ConvertArgs) -> bool {
+    !args.banks.is_empty()
+        && args.after.parity != ParityBit::Unused
+        && args.before.parity != ParityBit::Unused
+        && !args.ignores_parity
 }
 
 /// Returns a reading whose words have their bytes in order and their parity bit, if they use one, at the end.
@@ -100,7 +180,8 @@ fn convert_words(
     convert(alloc, before, after, words).map_err(no_memory)
 }
 
-/// Returns the words with wrong parity, with their places in the rope; the first one is a fault, unless parity is ignored.
+/// Returns the words with wrong parity, with their places in the rope. The first one is a fault, unless parity is ignored or
+/// its bits are copied.
 fn wrong_words(
     alloc: Global,
     args: &ConvertArgs,
@@ -113,8 +194,8 @@ fn wrong_words(
     let bad = bad_words(alloc, words).map_err(no_memory)?;
     for each in bad.as_slice() {
         if each.place < FIXED_WORDS as usize {
-            let place = index_in_file(args.before.order, each.place);
-            if !args.ignores_parity {
+            let place = place_in_rope(args, each.place);
+            if !args.ignores_parity && !copies_parity(args) {
                 return Err(RopeFault::Parity {
                     bank: bank_of(place as u32),
                     offset: offset_of(place as u32),
@@ -127,4 +208,19 @@ fn wrong_words(
         }
     }
     Ok(wrong)
+}
+
+/// Returns the place in the rope of a word of the file, or of the banks that `--banks` names.
+fn place_in_rope(args: &ConvertArgs, index: usize) -> usize
+    requires { index < fixed_words }
+    ensures { result < fixed_words }
+{
+    if args.banks.is_empty() {
+        return index_in_file(args.before.order, index);
+    }
+    let size = FIXED_BANK_SIZE as usize;
+    match args.banks.get(index / size).copied() {
+        Some(bank) if bank < NO_BANK => size * usize::from(bank) + index % size,
+        _ => index,
+    }
 }

@@ -1,7 +1,7 @@
 //! The `clap` definition of the command line: the subcommands with their files and options.
 use crate::arg_list::{ArgList, Subcommands, flag, named, option, repeated};
 use crate::merge::{DUMP_CHANGES, DUMP_READINGS};
-use crate::restore::{CHANGES, READINGS};
+use crate::restore::{CHANGES, MOVES, READINGS};
 use agc_cli::{
     FORMS, form_option, limit_option, names_option, rope_file, script_file, until_option,
     watch_option,
@@ -39,6 +39,8 @@ fn subcommands<'a>(alloc: Global) -> Subcommands<'a> {
         .profile_command()
         .jobs_command()
         .sample_command()
+        .downlink_command()
+        .uplink_command()
         .compare_command()
         .film_command()
         .convert_command()
@@ -278,7 +280,12 @@ impl<'a> Subcommands<'a> {
                 "Last machine cycle of the film: decimal, from 0; the stop if left out",
             )
             .watch_option(false)
-            .names_option("Accept names from this file in --until: a line for each, PLACE NAME");
+            .names_option("Accept names from this file in --until: a line for each, PLACE NAME")
+            .option(
+                "nouns",
+                "FILE",
+                "Show the display in words, by this file of verbs and nouns: verb 16 monitor, noun 36 R1 hours = 1",
+            );
         self.with(
             "film",
             "Prints a web page that shows the DSKY over the time of a run, or of two runs side by side.",
@@ -299,7 +306,11 @@ impl<'a> Subcommands<'a> {
             .reading_option("to", "Layout of the result")
             .flag("swap", "Exchange the two bytes of each word first")
             .bits_option()
+            .moved_option()
             .first_bank_option()
+            .banks_options(
+                "Write only these banks, in this order: octal, as 06-13,15; xx is a bank without words",
+            )
             .ignore_parity_option()
             .flag(
                 "all",
@@ -321,6 +332,10 @@ impl<'a> Subcommands<'a> {
                 "N",
                 "Print at most N repairs of each word: decimal, from 0; 16 if left out",
             )
+            .flag(
+                "stuck",
+                "Print only the repairs of words where a bit is stuck, by that bit, as check finds them",
+            )
             .repaired_form()
             .first_bank_option();
         self.with(
@@ -339,6 +354,9 @@ impl<'a> Subcommands<'a> {
                 "sum",
                 "BB",
                 "Make the sum of this bank its number, by its last word: octal, 00 to 43; repeatable",
+            )
+            .banks_options(
+                "PATCH is a rope file of these banks, in this order, and their words replace those of ROPE",
             )
             .form_option();
         self.with(
@@ -377,13 +395,13 @@ impl<'a> Subcommands<'a> {
 }
 
 impl<'a> ArgList<'a> {
-    /// Adds the text file of `patch`, which `--sum` does without.
+    /// Adds the second file of `patch`, which `--sum` does without.
     fn patch_file(self) -> ArgList<'a> {
         let arg = named(
             self.alloc,
             "patch",
             "PATCH",
-            "Text file of words: a line for each, PLACE WORD; # starts a comment",
+            "Text file of words: a line for each, PLACE WORD; # starts a comment. With --banks a rope file",
         )
         .required_unless_present("sum");
         self.with_tied(arg)
@@ -453,6 +471,26 @@ impl<'a> ArgList<'a> {
         )
         .value_parser(CHANGES.as_slice());
         self.with(arg)
+    }
+
+    fn moved_option(self) -> ArgList<'a> {
+        let arg = option(
+            self.alloc,
+            "moved",
+            "WHERE",
+            "All words of the file are one place on, or back: put them into their places first",
+        )
+        .value_parser(MOVES.as_slice());
+        self.with(arg)
+    }
+
+    /// Adds `--banks` and `--module`.
+    fn banks_options(self, help: &'a str) -> ArgList<'a> {
+        self.option("banks", "LIST", help).option(
+            "module",
+            "N",
+            "As --banks with the six banks of a module, 1 to 6: module 1 has 00-05, module 6 36-43",
+        )
     }
 
     fn first_bank_option(self) -> ArgList<'a> {

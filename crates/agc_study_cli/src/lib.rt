@@ -2,6 +2,7 @@
 #![tactic(auto)]
 
 mod arg_list;
+mod bank_list;
 mod command_line;
 mod jobs;
 mod merge;
@@ -10,6 +11,7 @@ mod restore;
 mod runs;
 mod sample;
 mod shown;
+mod telemetry;
 mod values;
 mod words;
 

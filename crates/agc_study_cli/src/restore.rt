@@ -1,10 +1,11 @@
 //! Parses the arguments of `convert`, `repair`, `patch`, `sums` and `compare --words`.
+use crate::bank_list::banks_of;
 use crate::runs::other_form_of;
 use crate::values::{push, refused};
 use agc_check::{BitChange, ParityBit, Reading};
 use agc_cli::{ArgsFault, form_of, number_of, path_of, text_of};
 use agc_store::RopeForm;
-use agc_study_args::{Args, ConvertArgs, PatchArgs, RepairArgs, SumsArgs, WordsArgs};
+use agc_study_args::{Args, ConvertArgs, Moved, PatchArgs, RepairArgs, SumsArgs, WordsArgs};
 use agc_word::read_octal;
 use clap::ArgMatches;
 use std::alloc::Global;
@@ -22,6 +23,9 @@ pub(crate) static READINGS: [&str; 6] = [
 /// The names of the changes of bits that `convert` takes.
 pub(crate) static CHANGES: [&str; 3] = ["inverted", "word-inverted", "reversed"];
 
+/// The moves of all words that `convert` undoes.
+pub(crate) static MOVES: [&str; 2] = ["on", "back"];
+
 /// The most repairs of a word: it has sixteen bits.
 const MOST_REPAIRS: u64 = 16;
 
@@ -33,6 +37,8 @@ pub(crate) fn convert_args(alloc: Global, given: &ArgMatches<'_>) -> Result<Args
         after: reading_of(given.get_str("to"), false),
         ignores_parity: given.get_flag("ignore-parity"),
         first_bank: first_bank_of(alloc, given)?,
+        moved: moved_of(given.get_str("moved")),
+        banks: banks_of(alloc, given, true)?,
         shows_all: given.get_flag("all"),
     }))
 }
@@ -44,6 +50,15 @@ pub(crate) fn change_of(name: Option<&str>) -> BitChange {
         Some("word-inverted") => BitChange::WordInverted,
         Some("reversed") => BitChange::Reversed,
         _ => BitChange::Nothing,
+    }
+}
+
+/// Returns the move of a name.
+fn moved_of(name: Option<&str>) -> Moved {
+    match name {
+        Some("on") => Moved::On,
+        Some("back") => Moved::Back,
+        _ => Moved::Nowhere,
     }
 }
 
@@ -92,6 +107,7 @@ pub(crate) fn repair_args(alloc: Global, given: &ArgMatches<'_>) -> Result<Args,
         rope: path_of(alloc, given, "rope")?,
         most: number_of(given, "most", MOST_REPAIRS).min(MOST_REPAIRS) as usize,
         has_parity: is_parity_form(alloc, given.get_str("form"))?,
+        mends_columns: given.get_flag("stuck"),
         first_bank: first_bank_of(alloc, given)?,
     }))
 }
@@ -112,6 +128,7 @@ pub(crate) fn patch_args(alloc: Global, given: &ArgMatches<'_>) -> Result<Args, 
     Ok(Args::Patch(PatchArgs {
         rope: path_of(alloc, given, "rope")?,
         patch: text_of(alloc, given, "patch")?,
+        banks: banks_of(alloc, given, false)?,
         sums: summed_banks(alloc, given)?,
         form: form_of(given),
     }))

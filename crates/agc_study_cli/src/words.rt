@@ -7,6 +7,7 @@ use crate::restore::{convert_args, first_bank_of, patch_args, repair_args, sums_
 use crate::runs::{files_of, options_of, other_files_of, other_form_of};
 use crate::sample::sample_args;
 use crate::shown::{shown_of, with_right_form};
+use crate::telemetry::{downlink_args, uplink_args};
 use crate::values::{channel_names_of, channels_of, mistake, orders_of, span_of, texts_of};
 use agc_cli::{ArgsFault, form_of, mistake_of, path_of, text_of};
 use agc_load::RunFiles;
@@ -75,6 +76,8 @@ fn args_of(alloc: Global, name: &str, given: &ArgMatches<'_>) -> Result<Args, Ar
         "profile" => profile_args(alloc, given),
         "jobs" => jobs_args(alloc, given),
         "sample" => sample_args(alloc, given),
+        "downlink" => downlink_args(alloc, given),
+        "uplink" => uplink_args(alloc, given),
         "compare" => compare_args(alloc, given),
         "film" => film_args(alloc, given),
         "convert" => convert_args(alloc, given),
@@ -265,6 +268,7 @@ fn film_args(alloc: Global, given: &ArgMatches<'_>) -> Result<Args, ArgsFault> {
         part: span_of(alloc, given)?,
         watch: text_of(alloc, given, "watch")?,
         names: text_of(alloc, given, "names")?,
+        nouns: text_of(alloc, given, "nouns")?,
     }))
 }
 

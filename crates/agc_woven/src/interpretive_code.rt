@@ -267,7 +267,7 @@ impl<'a> Reader<'a> {
         }
     }
 
-    /// Appends a place by its name, or as sources write it.
+    /// Appends a place by its name, or as sources write it: a decimal offset that would be another octal one ends in D.
     fn push_place(&self, text: &mut String, place: Place) -> Result<(), AllocError> {
         let location = match place {
             Place::Erasable(cell) => Location::Erasable(u32::from(cell)),
@@ -275,7 +275,8 @@ impl<'a> Reader<'a> {
         };
         if let Some(names) = self.names {
             if let Some(near) = names.operand_at(location) {
-                return push_nearby(text, near);
+                push_nearby(text, near)?;
+                return text.push_str(if near.offset > 7 { "D" } else { "" });
             }
         }
         match place {

@@ -1,4 +1,4 @@
-//! Prints what is wrong with a file of quantities.
+//! Prints what is wrong with a file of quantities, or of lists.
 use crate::fault::{LineFault, QuantitiesFault};
 use crate::line::fields_of;
 use agc_listing::{push_quoted, push_quoted_then};
@@ -23,6 +23,15 @@ pub fn push_fault(
             Ok(())
         }
         QuantitiesFault::Nothing => text.push_str("quantities: no line has a quantity"),
+        QuantitiesFault::Memory => text.push_str("memory"),
+    }
+}
+
+/// Appends what is wrong with a file of lists, without a line feed.
+pub fn push_list_fault(text: &mut String, fault: QuantitiesFault) -> Result<(), AllocError> {
+    match fault {
+        QuantitiesFault::Line(line, fault) => write!(text, "lists line {line}: {fault}"),
+        QuantitiesFault::Nothing => text.push_str("lists: no list has a quantity"),
         QuantitiesFault::Memory => text.push_str("memory"),
     }
 }

@@ -22,17 +22,24 @@ const TRIPLE: u64 = 1 << 42;
 /// Angles in a full word without a sign.
 const CIRCLE: u64 = 1 << 15;
 
+/// The words of a quantity, the first ones of these; the others are +0.
+pub(crate) type Words = [Narrow; 6];
+
 /// Appends the heading of a table.
 pub fn push_heading(text: &mut String, quantities: &[Quantity]) -> Result<(), AllocError> {
     text.push_str("cycle,seconds")?;
     for quantity in quantities {
-        let name = quantity.name.as_str();
-        match quantity.kind {
-            Kind::Vector(_) => write!(text, ",{name}.x,{name}.y,{name}.z")?,
-            _ => write!(text, ",{name}")?,
-        }
+        push_columns(text, quantity.name.as_str(), quantity.kind)?;
     }
     text.push_str("\n")
+}
+
+/// Appends the names of the columns of a quantity, each after a comma.
+pub(crate) fn push_columns(text: &mut String, name: &str, kind: Kind) -> Result<(), AllocError> {
+    match kind {
+        Kind::Vector(_) => write!(text, ",{name}.x,{name}.y,{name}.z"),
+        _ => write!(text, ",{name}"),
+    }
 }
 
 /// Appends the row of a sample of these quantities. `shows_minus_zero` prints zero as `-0` if its first word is -0.
@@ -42,54 +49,71 @@ pub fn push_row(
     sample: &Sample,
     shows_minus_zero: bool,
 ) -> Result<(), AllocError> {
-    let cycle = sample.cycle;
-    write!(text, "{cycle},")?;
-    push_decimal(text, cycle, CYCLE)?;
+    push_time(text, sample.cycle)?;
     let mut rest = sample.words.as_slice();
     for quantity in quantities {
-        let (words, later) = cut(rest, usize::from(quantity.kind.size()));
-        push_values(text, quantity.kind, words, shows_minus_zero)?;
-        rest = later;
+        let size = usize::from(quantity.kind.size());
+        push_values(text, quantity.kind, words_of(rest), shows_minus_zero)?;
+        rest = &rest[size.min(rest.len())..];
     }
     text.push_str("\n")
 }
 
-/// Returns the first words, and those after them.
-fn cut(words: &[CellWord], count: usize) -> (&[CellWord], &[CellWord]) {
-    words.split_at(count.min(words.len()))
+/// Appends a cycle and its seconds.
+pub(crate) fn push_time(text: &mut String, cycle: u64) -> Result<(), AllocError> {
+    write!(text, "{cycle},")?;
+    push_decimal(text, cycle, CYCLE)
 }
 
-/// Appends the values of a quantity with these words.
-fn push_values(
+/// Returns the words of the first cells.
+fn words_of(cells: &[CellWord]) -> Words {
+    let mut words = [Narrow::PLUS_ZERO; 6];
+    for (word, seen) in words.iter_mut().zip(cells) {
+        *word = seen.word;
+    }
+    words
+}
+
+/// Appends the values of a quantity with these words, each after a comma.
+pub(crate) fn push_values(
     text: &mut String,
     kind: Kind,
-    words: &[CellWord],
+    words: Words,
     shows_minus_zero: bool,
 ) -> Result<(), AllocError> {
+    let [first, second, third, fourth, fifth, sixth] = words;
     text.push_str(",")?;
     match kind {
-        Kind::Single(scale) => push_signed(text, words, step_of(scale, WORD), shows_minus_zero),
-        Kind::Double(scale) => push_signed(text, words, step_of(scale, PAIR), shows_minus_zero),
-        Kind::Triple(scale) => push_signed(text, words, step_of(scale, TRIPLE), shows_minus_zero),
-        Kind::Vector(scale) => {
-            let step = step_of(scale, PAIR);
-            let (x, rest) = cut(words, 2);
-            let (y, z) = cut(rest, 2);
-            push_signed(text, x, step, shows_minus_zero)?;
-            text.push_str(",")?;
-            push_signed(text, y, step, shows_minus_zero)?;
-            text.push_str(",")?;
-            push_signed(text, z, step, shows_minus_zero)
-        }
-        Kind::Unsigned(scale) => {
-            push_decimal(
+        Kind::Single(scale) => push_signed(text, &[first], step_of(scale, WORD), shows_minus_zero),
+        Kind::Double(scale) => {
+            push_signed(
                 text,
-                u64::from(first_of(words).bits()),
-                step_of(scale, CIRCLE),
+                &[first, second],
+                step_of(scale, PAIR),
+                shows_minus_zero,
             )
         }
+        Kind::Triple(scale) => {
+            push_signed(
+                text,
+                &[first, second, third],
+                step_of(scale, TRIPLE),
+                shows_minus_zero,
+            )
+        }
+        Kind::Vector(scale) => {
+            let step = step_of(scale, PAIR);
+            push_signed(text, &[first, second], step, shows_minus_zero)?;
+            text.push_str(",")?;
+            push_signed(text, &[third, fourth], step, shows_minus_zero)?;
+            text.push_str(",")?;
+            push_signed(text, &[fifth, sixth], step, shows_minus_zero)
+        }
+        Kind::Unsigned(scale) => {
+            push_decimal(text, u64::from(first.bits()), step_of(scale, CIRCLE))
+        }
         Kind::Bits { high, low } => {
-            let bits = bits_of(first_of(words), high, low);
+            let bits = bits_of(first, high, low);
             write!(text, "{bits}")
         }
     }
@@ -100,13 +124,6 @@ fn step_of(scale: Scale, steps: u64) -> Step {
     Step {
         worth: u128::from(scale.worth),
         parts: u128::from(scale.parts) * u128::from(steps),
-    }
-}
-
-fn first_of(words: &[CellWord]) -> Narrow {
-    match words {
-        [seen, ..] => seen.word,
-        [] => Narrow::PLUS_ZERO,
     }
 }
 
@@ -127,14 +144,14 @@ fn bits_of(word: Narrow, high: u32, low: u32) -> u32 {
 /// Appends the value of one to three words, which may have unlike signs.
 fn push_signed(
     text: &mut String,
-    words: &[CellWord],
+    words: &[Narrow],
     step: Step,
     shows_minus_zero: bool,
 ) -> Result<(), AllocError> {
     let (mut plus, mut minus) = (0u64, 0u64);
-    for seen in words {
-        let magnitude = u64::from(seen.word.magnitude());
-        let (more, less) = if seen.word.is_minus() {
+    for word in words {
+        let magnitude = u64::from(word.magnitude());
+        let (more, less) = if word.is_minus() {
             (0, magnitude)
         } else {
             (magnitude, 0)
@@ -142,7 +159,8 @@ fn push_signed(
         plus = plus.saturating_mul(WORD).saturating_add(more);
         minus = minus.saturating_mul(WORD).saturating_add(less);
     }
-    if plus < minus || (plus == minus && shows_minus_zero && first_of(words).bits() == 0o77777) {
+    let is_minus_zero = words.first().is_some_and(|word| word.bits() == 0o77777);
+    if plus < minus || (plus == minus && shows_minus_zero && is_minus_zero) {
         text.push_str("-")?;
     }
     push_decimal(text, plus.abs_diff(minus), step)

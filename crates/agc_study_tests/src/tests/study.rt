@@ -660,6 +660,7 @@ fn filming(files: RunFiles, part: Span, watch: Option<String>) -> FilmArgs {
         part,
         watch,
         names: None,
+        nouns: None,
     }
 }
 

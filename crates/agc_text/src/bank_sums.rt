@@ -1,0 +1,183 @@
+//! Adds the words of a bank as they are, and as they would be without damage of one kind.
+use agc_check::{is_bad_parity, word_sum};
+use agc_store::place::{FIXED_BANK_SIZE, FIXED_BANKS, FIXED_WORDS};
+use agc_store::{RopeForm, index_in_file};
+use agc_word::Narrow;
+use std::alloc::{AllocError, Global};
+
+/// The banks of a rope.
+pub(crate) const BANKS: usize = FIXED_BANKS as usize;
+
+/// The words of a bank.
+pub(crate) const SIZE: usize = FIXED_BANK_SIZE as usize;
+
+/// The fewest words that are all ones in an inverted bank, and the fewest different words of banks that are compared.
+const LEAST: usize = 8;
+
+/// How the words of a bank are read.
+#[derive(Clone, Copy, Debug, PartialEq, Eq)]
+pub(crate) enum WordsRead {
+    Plain,
+    /// The sixteen bits in reverse order.
+    Reversed,
+    /// The two bytes exchanged.
+    Exchanged,
+    /// Each word one place later, since all were moved one place on.
+    Later,
+    /// Each word one place earlier, since all were moved one place back.
+    Earlier,
+    /// All sixteen bits inverted.
+    Inverted,
+    /// The fifteen bits inverted, but not the parity bit.
+    WordInverted,
+}
+
+/// The sixteen bits of each place of a rope: as its file has them, and with its words one place earlier or later.
+#[derive(Drop)]
+pub(crate) struct RopeBits {
+    pub plain: Vec<u16>,
+    later: Vec<u16>,
+    earlier: Vec<u16>,
+}
+
+/// Returns the bits of the words of a file.
+pub(crate) fn rope_bits(
+    alloc: Global,
+    form: RopeForm,
+    words: &[u16],
+) -> Result<RopeBits, AllocError> {
+    Ok(RopeBits {
+        plain: bits_by_place(alloc, form, words, 1)?,
+        later: bits_by_place(alloc, form, words, 2)?,
+        earlier: bits_by_place(alloc, form, words, 0)?,
+    })
+}
+
+/// Returns the bits of each place of a file that begins with its second word, for `from` 2, with its first one, for 1, or with
+/// a 0 before it, for 0.
+fn bits_by_place(
+    alloc: Global,
+    form: RopeForm,
+    words: &[u16],
+    from: usize,
+) -> Result<Vec<u16>, AllocError> {
+    (0..FIXED_WORDS as usize)
+        .map(|place| {
+            let index = index_in_file(form, place).saturating_add(from);
+            match index.checked_sub(1) {
+                Some(index) => bits_at(words, index),
+                None => 0,
+            }
+        })
+        .collect(alloc)
+}
+
+/// Returns the sixteen bits at an index.
+pub(crate) fn bits_at(bits: &[u16], place: usize) -> u16 {
+    bits.get(place).copied().unwrap_or(0)
+}
+
+/// Returns the first place of a bank.
+fn start_of(bank: usize) -> usize {
+    bank.saturating_mul(SIZE)
+}
+
+/// Returns whether a bank has two different words. A bank that is filled with one word has no program.
+pub(crate) fn is_used(bits: &[u16], bank: usize) -> bool {
+    let first = bits_at(bits, start_of(bank)) / 2;
+    (0..SIZE).any(|offset| bits_at(bits, start_of(bank).saturating_add(offset)) / 2 != first)
+}
+
+/// Returns the bits of each place, with words that were moved put back.
+fn bits_read(rope: &RopeBits, read: WordsRead) -> &[u16] {
+    match read {
+        WordsRead::Later => rope.later.as_slice(),
+        WordsRead::Earlier => rope.earlier.as_slice(),
+        _ => rope.plain.as_slice(),
+    }
+}
+
+/// Returns whether a bank has two different words, read in one way.
+pub(crate) fn is_used_read(rope: &RopeBits, bank: usize, read: WordsRead) -> bool {
+    is_used(bits_read(rope, read), bank)
+}
+
+/// Returns the sum of the words of a bank, read in one way.
+pub(crate) fn sum_read(rope: &RopeBits, bank: usize, read: WordsRead) -> Narrow {
+    let bits = bits_read(rope, read);
+    let mut sum = Narrow::PLUS_ZERO;
+    for offset in 0..SIZE {
+        let word = bits_at(bits, start_of(bank).saturating_add(offset));
+        sum = word_sum(sum, Narrow::with_bits(word_read(word, read) / 2));
+    }
+    sum
+}
+
+/// Returns a word with a change of its bits undone.
+fn word_read(word: u16, read: WordsRead) -> u16 {
+    match read {
+        WordsRead::Plain | WordsRead::Later | WordsRead::Earlier => word,
+        WordsRead::Reversed => word.reverse_bits(),
+        WordsRead::Exchanged => word % 256 * 256 + word / 256,
+        WordsRead::Inverted => !word,
+        WordsRead::WordInverted => word ^ 0xFFFE,
+    }
+}
+
+/// Returns the bank whose number, or the complement of it, a sum is.
+pub(crate) fn number_of(sum: Narrow) -> Option<usize> {
+    let bank = usize::from(sum.magnitude());
+    if bank < BANKS { Some(bank) } else { None }
+}
+
+/// Returns whether two banks have the same words, and more than a few different ones.
+pub(crate) fn has_same_words(bits: &[u16], first: usize, second: usize) -> bool {
+    let mut different = 0usize;
+    let mut last = 0;
+    for offset in 0..SIZE {
+        let word = bits_at(bits, start_of(first).saturating_add(offset));
+        if word != bits_at(bits, start_of(second).saturating_add(offset)) {
+            return false;
+        }
+        if word != last {
+            different = different.saturating_add(1);
+        }
+        last = word;
+    }
+    different >= LEAST
+}
+
+/// Returns whether a bank looks inverted: its last word and more words than are empty are these ones; or, in the form with
+/// parity, all words but these have wrong parity.
+pub(crate) fn is_all_ones(form: RopeForm, bits: &[u16], bank: usize, ones: u16) -> bool {
+    let (mut full, mut empty, mut right, mut wrong) = (0usize, 0usize, 0usize, 0usize);
+    for offset in 0..SIZE {
+        let word = bits_at(bits, start_of(bank).saturating_add(offset));
+        if word == ones {
+            full = full.saturating_add(1);
+        } else if word == 0 {
+            empty = empty.saturating_add(1);
+        } else if is_bad_parity(word) {
+            wrong = wrong.saturating_add(1);
+        } else {
+            right = right.saturating_add(1);
+        }
+    }
+    let is_filled = full >= LEAST && full > empty;
+    let is_even = form == RopeForm::Parity && ones == 0xFFFE && right == 0 && wrong >= LEAST;
+    is_filled || is_even
+}
+
+/// Returns whether the first place of a bank is empty, and at least two words of the bank, read as orders, name it.
+pub(crate) fn is_first_named(bits: &[u16], bank: usize) -> bool {
+    let first = match bank {
+        2 => 0o4000,
+        3 => 0o6000,
+        _ => 0o2000,
+    };
+    let start = start_of(bank);
+    let named = (0..SIZE)
+        .filter(|offset| bits_at(bits, start.saturating_add(*offset)) / 2 % 0o10000 == first)
+        .count();
+    bits_at(bits, start) / 2 == 0 && named >= 2
+}

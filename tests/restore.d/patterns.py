@@ -1,0 +1,308 @@
+"""Draws ropes from a seed, damages them in one way, and judges the pattern that `agc-study check` names.
+
+Each line that is wanted is made from the damage that was done, with counts of its own. The command that the line prints is run,
+and has to give the sound rope, as far as the damage left its words.
+"""
+
+import os
+import re
+import shlex
+import subprocess
+
+import judge
+from merging import BANK, in_classic_order, is_even, place_text, read, total, with_parity, without_parity, write
+
+HALF = BANK // 2
+MODULE = 6 * BANK
+KINDS = ("stuck", "exchanged", "moved", "twice", "missing", "reversed", "bytes exchanged", "one place on", "one place back",
+         "inverted", "inverted but for the parity bits")
+PATTERN = re.compile(rf"({'|'.join(KINDS)}): (.*)")
+
+
+def run(*args):
+    """Returns the status, standard output and standard error."""
+    done = subprocess.run([judge.STUDY, *args], capture_output=True, check=False)
+    return done.returncode, done.stdout, done.stderr.decode()
+
+
+def draw_rope(draw, banks, least=100, most=BANK - 1):
+    """Returns the sixteen bits of each place of a rope with right sums in these banks. The first words name each other."""
+    words = [0] * (36 * BANK)
+    for bank in banks:
+        count = draw.randrange(least, most + 1) - 1
+        first = {2: 0o4000, 3: 0o6000}.get(bank, 0o2000)
+        for at in range(count):
+            word = draw.randrange(1, 0o77777) if at > 3 else 0o10000 * draw.choice([1, 3, 4]) + first + draw.choice([0, 2])
+            words[bank * BANK + at] = with_parity(word)
+        words[bank * BANK + 1] = words[bank * BANK + 3] = with_parity(0o30000 + first)
+        rest = total(word >> 1 for word in words[bank * BANK:(bank + 1) * BANK])
+        words[bank * BANK + count] = with_parity(total([bank, 0o77777 - rest]))
+    return words
+
+
+def patterns(name, *options):
+    """Returns the lines of patterns that `check` prints as (kind, text, what mends it)."""
+    lines = run("check", name, *options)[1].decode().splitlines()
+    found = []
+    for at, line in enumerate(lines):
+        match = PATTERN.fullmatch(line)
+        if match:
+            after = lines[at + 1] if at + 1 < len(lines) else ""
+            mended = after.removeprefix("    mended by: ") if after.startswith("    mended by: ") else None
+            found.append((match[1], match[2], mended))
+    return found
+
+
+def mended(command):
+    """Runs a printed command, whose ROPE is `image`, and returns the words of the rope that it makes."""
+    made = b""
+    for at, part in enumerate(command.split(", and ")):
+        words = shlex.split(part.replace("ROPE", "image"))
+        into = None
+        if ">" in words:
+            into = words[words.index(">") + 1]
+            words = words[:words.index(">")]
+        status, made, err = run(*words)
+        judge.judge(f"{command}: status of part {at}: {err}", 0, status)
+        if into:
+            with open(into, "wb") as file:
+                file.write(made)
+    return read(made)
+
+
+def judge_lines(what, wanted, found):
+    judge.judge(f"{what}: patterns", wanted, [(kind, text) for kind, text, _ in found])
+
+
+def judge_mended(what, sound, found):
+    """Judges that the command of the first pattern gives the sound rope; a file may end before its last banks."""
+    if found and judge.check(f"{what}: a command", found[0][2] is not None):
+        made = mended(found[0][2])
+        judge.check(f"{what}: it is sound again", made == sound[:len(made)] and not any(sound[len(made):]))
+
+
+# Stuck bits
+
+def judge_stuck(what, sound, words, parts):
+    """Judges a rope with stuck bits; parts are (bit, value, name, first place, number of places)."""
+    write("image", words)
+    wanted = []
+    for bit, value, name, first, count in parts:
+        held = [word for word in words[first:first + count] if word]
+        wrong = sum(is_even(word) for word in held)
+        text = "the parity bit" if bit == 0 else f"bit {bit}"
+        wanted.append(("stuck", f"{text} is {value} in all {len(held)} words of {name}, {place_text(first)} to "
+                                f"{place_text(first + count - 1)}; {wrong} have wrong parity (likely)"))
+    found = patterns("image", "--form", "parity")
+    judge_lines(what, wanted, found)
+    judge_mended(what, sound, found)
+    lines = run("repair", "image", "--form", "parity", "--stuck")[1].decode().splitlines()
+    inside = [at for at, word in enumerate(words) if is_even(word) and any(f <= at < f + n for _, _, _, f, n in parts)]
+    judge.judge(f"{what}: repaired", [f"{place_text(at)} {sound[at] >> 1:05o}" for at in inside], [line[:13] for line in lines])
+
+
+def stuck_parts(draw):
+    """A bit that is 0 or 1 in a half bank, a bank or a module; two columns; a column beside single wrong words."""
+    for n in range(9):
+        sound = draw_rope(draw, [2, 3, 6, 7, 9, 11, 20, 30], 700)
+        bit, value = draw.randrange(16), n % 2
+        first, count, name = ((7 * BANK + HALF * (n % 2), HALF, "a half bank"), (9 * BANK, BANK, "a bank"),
+                              (MODULE, MODULE, "module 2"))[n % 3]
+        words = list(sound)
+        stick(words, bit, value, first, count)
+        parts = [(bit, value, name, first, count)]
+        if n >= 6:
+            stick(words, 15 - bit, 1, 20 * BANK, BANK)
+            parts.append((15 - bit, 1, "module 4", 18 * BANK, MODULE))
+        judge_stuck(f"stuck {n}", sound, words, parts)
+    sound = draw_rope(draw, [2, 3, 6, 7, 9, 11, 20, 30], 700)
+    words = list(sound)
+    words[30 * BANK + 7] ^= 8
+    sound[30 * BANK + 7] ^= 8
+    stick(words, 5, 1, 9 * BANK, BANK)
+    judge_stuck("stuck, and a wrong word elsewhere", sound, words, [(5, 1, "a bank", 9 * BANK, BANK)])
+
+
+def stick(words, bit, value, first, count):
+    """Sets a bit in words of some places. A word that would be 0 stays, since sixteen bits 0 are no word."""
+    for at in range(first, first + count):
+        if words[at]:
+            words[at] = words[at] & ~(1 << bit) | value << bit or words[at]
+
+
+def few_words(draw):
+    """Seven wrong words of a column are too few, and so are two bits that are the same: no pattern, nothing to repair."""
+    for n in range(4):
+        sound = draw_rope(draw, [4, 9], 700)
+        words = list(sound)
+        if n % 2 == 0:
+            turned = [at for at in range(9 * BANK, 9 * BANK + HALF) if words[at] & 16][:7]
+            words[9 * BANK:9 * BANK + HALF] = [0] * HALF
+            for at in turned + [at for at in range(9 * BANK, 9 * BANK + HALF) if not sound[at] & 16][:30]:
+                words[at] = sound[at] & ~16
+        else:
+            stick(words, 4, 1, 9 * BANK, HALF)
+            stick(words, 9, 0, 9 * BANK, HALF)
+        write("image", words)
+        judge.judge(f"few words {n}", [], [kind for kind, _, _ in patterns("image", "--form", "parity") if kind == "stuck"])
+        judge.judge(f"few words {n}: repairs", b"", run("repair", "image", "--form", "parity", "--stuck")[1])
+
+
+# Banks in other places
+
+def exchanged(draw):
+    for n in range(6):
+        banks = draw.sample(range(1, 36), 6)
+        sound = draw_rope(draw, banks)
+        one, two = sorted(banks[:2])
+        words = list(sound)
+        words[one * BANK:(one + 1) * BANK], words[two * BANK:(two + 1) * BANK] = (
+            sound[two * BANK:(two + 1) * BANK], sound[one * BANK:(one + 1) * BANK])
+        wanted = [("exchanged", f"banks {one:02o} and {two:02o}; the sum of each is the number of the other (likely)")]
+        write("image", words)
+        found = patterns("image", "--form", "parity")
+        judge_lines(f"exchanged {n}", wanted, found)
+        judge_mended(f"exchanged {n}", sound, found)
+        write("image", without_parity(in_classic_order(words)))
+        found = patterns("image")
+        judge_lines(f"exchanged {n}: classic", wanted, found)
+        judge_mended(f"exchanged {n}: classic", without_parity(in_classic_order(sound)), found)
+
+
+def left_out(draw):
+    """A module is left out of the file, so that the banks after it are six places back; or the words come six banks on."""
+    for n in range(4):
+        module = 1 + n
+        after = range(6 * module + 6, 36)
+        sound = draw_rope(draw, [*([1, 2] if n % 2 else range(6 * module)), *after])
+        words = sound[:module * MODULE] + sound[(module + 1) * MODULE:]
+        write("image", words)
+        first = 6 * module
+        wanted = [("moved", f"banks {first:02o} to 35 have the words of banks {first + 6:02o} to 43; their sums, "
+                            f"{len(after)}, are those numbers (likely); module {module + 1} is missing")]
+        found = patterns("image", "--form", "parity", "--first-bank", "00")
+        judge_lines(f"left out {n}", wanted, found)
+        judge_mended(f"left out {n}", sound, found)
+    sound = draw_rope(draw, [2, 3, 8, 9, 15])
+    words = sound[:MODULE] + sound[:MODULE] + sound[MODULE:-MODULE]
+    write("image", words)
+    found = patterns("image", "--form", "parity")
+    judge.judge("a module too many", ("moved", "banks 10 to 25 have the words of banks 02 to 17; their sums, 5, are those numbers "
+                                               "(likely); module 1 is there twice"), found[0][:2] if found else None)
+    judge_mended("a module too many", sound, found)
+
+
+def module_alone(draw):
+    """A module alone in a file: its first bank is named."""
+    for n in range(1, 6):
+        sound = draw_rope(draw, range(6 * n, 6 * n + 6))
+        write("image", sound[n * MODULE:(n + 1) * MODULE])
+        found = patterns("image", "--form", "parity")
+        judge.judge(f"module {n + 1} alone", [("moved", f"the file begins with bank {6 * n:02o}, by the sums of 6 of its banks (likely)",
+                                              f"--first-bank {6 * n:02o}")], found)
+
+
+def twice(draw):
+    """A bank, or a module, has the words of another one."""
+    for n in range(4):
+        sound = draw_rope(draw, range(2, 24))
+        words = list(sound)
+        words[20 * BANK:21 * BANK] = sound[5 * BANK:6 * BANK]
+        write("image", words)
+        texts = [text for kind, text, _ in patterns("image", "--form", "parity") if kind == "twice"]
+        judge.judge(f"twice {n}: a bank", ["bank 24 has the words of bank 05 (certain); the sums are right for the latter: put the "
+                                           "words of the former back by patch --banks 24"], texts)
+        words = list(sound)
+        words[2 * MODULE:3 * MODULE] = sound[MODULE:2 * MODULE]
+        write("image", words)
+        texts = [text for kind, text, _ in patterns("image", "--form", "parity") if kind == "twice"]
+        judge.judge(f"twice {n}: a module", ["module 3, banks 14-21, has the words of module 2, banks 06-13 (certain); the sums "
+                                             "are right for the latter: put the words of the former back by patch --banks 14-21"],
+                    texts)
+
+
+def missing(draw):
+    """A module of a full rope has no words."""
+    for n in range(6):
+        words = draw_rope(draw, range(36))
+        words[n * MODULE:(n + 1) * MODULE] = [draw.choice([0, 0xFFFF])] * MODULE
+        write("image", words)
+        banks = f"{6 * n:02o}-{6 * n + 5:02o}"
+        judge_lines(f"missing {n}", [("missing", f"module {n + 1}, banks {banks}, has no words, and each other bank has some (likely); "
+                                                 f"patch --banks {banks} puts it in")], patterns("image", "--form", "parity"))
+
+
+# Bits and places
+
+CHANGES = {
+    "reversed": lambda word: int(f"{word:016b}"[::-1], 2),
+    "bytes exchanged": lambda word: word >> 8 | (word & 255) << 8,
+    "inverted": lambda word: word ^ 0xFFFF,
+    "inverted but for the parity bits": lambda word: word ^ 0xFFFE,
+}
+
+
+def changed_words(draw):
+    """All words, or those of one or two banks, are changed bit by bit."""
+    for kind, made in CHANGES.items():
+        for n in range(3):
+            banks = sorted(draw.sample(range(1, 36), 6))
+            sound = draw_rope(draw, banks, 100, BANK - 30)
+            write("image", [made(word) for word in sound])
+            found = patterns("image", "--form", "parity")
+            judge_lines(f"{kind} {n}", [(kind, "all words; with that undone the sums of all used banks are right (likely)")], found)
+            judge_mended(f"{kind} {n}", sound, found)
+            few = sorted(draw.sample(banks, 1 + n % 2))
+            words = [made(word) if at // BANK in few else word for at, word in enumerate(sound)]
+            write("image", words)
+            found = patterns("image", "--form", "parity")
+            named = bank_list(few)
+            judge_lines(f"{kind} {n}: banks", [(kind, f"the words of banks {named}; with that undone their sums are right (likely)")], found)
+            judge_mended(f"{kind} {n}: banks", sound, found)
+
+
+def bank_list(banks):
+    """Returns banks in ascending order as `--banks` has them."""
+    parts = []
+    for bank in banks:
+        if parts and parts[-1][1] == bank - 1:
+            parts[-1][1] = bank
+        else:
+            parts.append([bank, bank])
+    return ",".join(f"{first:02o}" if first == last else f"{first:02o}-{last:02o}" for first, last in parts)
+
+
+def one_place(draw):
+    """All words are one place on, or back."""
+    for n in range(4):
+        sound = draw_rope(draw, sorted(draw.sample(range(1, 36), 5)) if n % 2 else range(36), 100 if n % 2 else BANK,
+                          BANK - 1 if n % 2 else BANK)
+        moved = [0, *sound[:-1]]
+        if n % 2 == 0:
+            sound = [*sound[:-1], 0]  # its last word is lost
+        for kind, words in (("one place on", moved), ("one place back", [*sound[1:], 0])):
+            write("image", words)
+            found = [line for line in patterns("image", "--form", "parity") if line[0] == kind]
+            judge.check(f"{kind} {n}: it is named", len(found) == 1)
+            judge.check(f"{kind} {n}: all words or its banks", n % 2 == 0 or found and found[0][1].startswith("all words"))
+            made = read(run("convert", "image", "--form", "parity", "--moved", kind.split()[-1], "--to", "parity",
+                            "--ignore-parity")[1])
+            judge.check(f"{kind} {n}: it comes back", made[1:] == sound[1:len(made)])
+    write("image", [0o123456 | 1, *sound[:-1]])
+    remark = run("convert", "image", "--form", "parity", "--moved", "on", "--to", "parity", "--ignore-parity")[2]
+    judge.check(f"one place on: the word left out: {remark}", f"; left out {(0o123456 | 1) >> 1:05o}" in remark)
+
+
+def sound_ropes(draw):
+    """On sound ropes, and on the examples, no pattern is found."""
+    for n in range(40):
+        sound = draw_rope(draw, draw.sample(range(36), draw.randrange(1, 9)))
+        write("image", sound)
+        judge.judge(f"sound rope {n}", [], patterns("image", "--form", "parity"))
+        write("image", without_parity(in_classic_order(sound)))
+        judge.judge(f"sound rope {n}: classic", [], patterns("image"))
+    for name in ("descent", "interpreter", "verbs", "pinball", "lander"):
+        judge.judge(f"examples/{name}", [], patterns(os.path.join(judge.TOP, f"examples/{name}/rope")))
+
+
+GROUPS = (stuck_parts, few_words, exchanged, left_out, module_alone, twice, missing, changed_words, one_place, sound_ropes)
