@@ -17,7 +17,7 @@ MILE = 1852.0  # m, a nautical mile
 PLACE, SPEED = 25, 12  # the scales of the program: a number is a fraction of this power of two
 SECOND = 256000 / 3  # cycles
 KEY_CYCLES = 9000  # from a key to the next one
-COMPUTING = 400_000  # cycles that ORBJOB takes at most for what a key asks
+COMPUTING = 400_000  # cycles that ORBJOB takes at most after a key
 REFRESH = 80_000  # cycles until the display has it: half a second to DISPJOB, a quarter for the rows
 KEYS = {"V": "VERB", "N": "NOUN", "E": "ENTR", "P": "PRO", "C": "CLR", "K": "KEYREL", "R": "RSET"}
 

@@ -7,7 +7,7 @@ from orbit import MU, PLACE, RADIUS, SPEED, burnt, cross, dot, elements, later, 
 TICKS = 25  # of 10 ms, between two looks at the cells
 PIECES = 120  # of the path
 SHAPE = 0.62  # of the frame: its height by its width
-ROOM = 1.12  # the frame is so many times the orbit
+ROOM = 1.12  # the size of the frame, in sizes of the orbit
 STATE, BURN = ("RVEC", "VVEC", "TSTATE"), ("BURNN", "TIG")
 
 

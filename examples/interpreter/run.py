@@ -40,7 +40,7 @@ def lines(rope, names, wanted, **options):
     with Console(rope, names=names, **options) as console:
         if not console.until("STAY", MOST).came:
             code, place = console.cell("CODE"), console.cell("LOC")
-            raise Error(f"the program does not come to STAY; CODE is {code:03o} and LOC {place:04o}")
+            raise Error(f"the program does not reach STAY; CODE is {code:03o} and LOC {place:04o}")
         cycles = console.cycle
         overflow = [] if console.cell("OVFIND") in (0, 0o77777) else ["OVFIND is set"]
         return [shown(console, each) for each in wanted] + overflow + [f"STAY at cycle {cycles}"]

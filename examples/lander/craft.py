@@ -43,7 +43,7 @@ class Craft:
 
 
 def fly(agc, craft, steps):
-    """Goes on so many steps, and yields after each one what the machine has written in it."""
+    """Takes this many steps, and yields after each one what the machine has written in it."""
     agc.poke(0, CDUX, craft.pulses() % TURN)
     for step in range(1, steps + 1):
         writes = agc.go_to(step * STEP)
@@ -60,7 +60,7 @@ class Instrument:
     """The craft as an instrument of agc-web: its pilot turns the angle that the machine is to hold."""
 
     RATE = 6  # degrees a second, while a button is held
-    EVERY = 10  # ticks between two words that the machine is given: an event each
+    EVERY = 10  # ticks between two words that the machine gets: an event each
 
     def __init__(self, craft):
         self.craft = craft
@@ -82,7 +82,7 @@ class Instrument:
         self.ticks += 1
 
     def control(self, name, down):
-        """Turns what is wanted, as long as a button is held."""
+        """Turns the wanted angle, as long as a button is held."""
         self.turn = {"left": -1, "right": 1}[name] if down else 0
 
     def view(self):

@@ -171,7 +171,7 @@ def arguments() -> argparse.Namespace:
     """Returns the command line's words."""
     parser = argparse.ArgumentParser(description="Draws landings: what the program computed, and the truth.")
     parser.add_argument("png", help="the picture that is written")
-    parser.add_argument("--seconds", type=float, default=900.0, help="fly so many seconds at most")
+    parser.add_argument("--seconds", type=float, default=900.0, help="fly at most this many seconds")
     parser.add_argument("--seed", type=int, default=1, help="for the radar's noise, mass, tilt and the known height (1)")
     parser.add_argument("--script", default=ALARM, help="the events of the second flight (the rendezvous radar's pulses)")
     parser.add_argument("--keep", metavar="FOLDER", help="write the scripts and the frames, as CSV, into this folder")
