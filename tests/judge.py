@@ -100,7 +100,7 @@ def beside(tries, most):
 
 
 def make_beside(count, most):
-    """Makes so many tries in so many processes, and adds what these have counted."""
+    """Makes `count` tries in `most` processes, and adds what these have counted."""
     global passed, failed
     with tempfile.TemporaryFile() as counted:
         given = [filled(bytes(range(count))), filled(bytes(again)), counted.fileno()]
@@ -169,7 +169,7 @@ def slowness():
 
 
 def soon(what, began, seconds):
-    """Checks that something which began at this time is done within so many seconds; longer if other programs have the
+    """Checks that something which began at this time is done within this many seconds; longer if other programs have the
     processors."""
     took = time.monotonic() - began
     return check(f"{what}: it took {took:.2f} s, more than {seconds}", took < seconds or took < seconds * slowness())

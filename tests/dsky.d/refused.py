@@ -17,7 +17,7 @@ import tty
 program, shim, rope = sys.argv[1:4]
 
 LONGEST = 120
-# Sessions are drawn as long as they last, so that there is always one growth more: so many are tried.
+# Sessions are drawn as long as they last, so that there is always one growth more: this many are tried.
 MOST = {"GROWTH": 60, "READ": 12, "WRITE": 12}
 REFUSALS = {
     "GROWTH": {"agc-dsky: memory", f"agc-dsky: {rope}: rope: Memory"},

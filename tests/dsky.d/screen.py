@@ -62,7 +62,7 @@ BEGUN_SEQUENCE = re.compile(r"\x1b(\[\??[0-9;]*)?\Z")
 
 
 class Screen:
-    """A terminal of so many lines and columns. What is written beside the alternate screen is kept as `plain` text."""
+    """A terminal of this many lines and columns. What is written beside the alternate screen is kept as `plain` text."""
 
     def __init__(self, lines, columns):
         self.modes = {"?7", "?25"}
@@ -197,7 +197,7 @@ class Screen:
         return self.sign(y, x) + "".join(self.digit(y, x + 4 * place) for place in range(1, 6))
 
     def fields(self):
-        """The digits that are seen, as the panel of agc writes them, or None where no picture is."""
+        """The digits that are seen, in the form of agc's panel, or None without a picture."""
         if self.is_large():
             pairs = {"PROG": self.pair(1, 46), "VERB": self.pair(5, 30), "NOUN": self.pair(5, 46)}
             registers = {f"R{number}": self.register(5 + 3 * number, 30) for number in (1, 2, 3)}

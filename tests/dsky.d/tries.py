@@ -1,4 +1,4 @@
-"""Sessions before agc-dsky on terminals, laid beside the plain run of agc on the script that each tells.
+"""Sessions of agc-dsky on terminals, compared with the plain run of agc on the script that each prints.
 
 Nothing waits for
 a fixed time to be right: what is to come is waited for, for LONGEST seconds at most.
@@ -64,7 +64,7 @@ class Terminal:
         os.write(self.master, text if isinstance(text, bytes) else text.encode())
 
     def take(self, seconds):
-        """Takes what is written within so many seconds; false where that is nothing."""
+        """Takes what is written within this many seconds; false if that is nothing."""
         if not select.select([self.master], [], [], seconds)[0]:
             return False
         try:
@@ -98,7 +98,7 @@ class Terminal:
             raise Late(f"{what}:\n{shown}")
 
     def begun(self):
-        """Waits for the first picture of the right size: a small one where the terminal has not told its size."""
+        """Waits for the first picture of the right size: a small one if the terminal has not sent its size."""
         small = self.screen.lines < LARGE[0] or not self.answers
         self.until("no picture", lambda screen: screen.cycle() is not None and small == ("R1 " in screen.text()))
         self.screen.overruns = 0
@@ -756,7 +756,7 @@ def try_little_memory():
 
 
 def try_last_keys():
-    """A key that comes together with q or s, or while time stands, is told, and the told limit reaches it."""
+    """A key that comes together with q or s, or while time stands, is in the printed script, and the printed limit reaches it."""
     for name, stands in (("a key with q", False), ("a key while time stands", True)):
         terminal = Terminal([KEYS_ROPE])
         try:
@@ -1121,8 +1121,8 @@ def counted(lines):
 
 
 def shows_boundaries(name, terminal, rope, save, most=12, taken=None, names=()):
-    """The screen of a session whose time has stopped shows the last boundaries of the run, in so many lines at most, and what
-    comes next; with `taken` it shows so many boundaries."""
+    """The screen of a session whose time has stopped shows the last boundaries of the run, in this many lines at most, and what
+    comes next; with `taken` it shows that many boundaries."""
     script, cycle = terminal.saved(save), terminal.screen.cycle()
     lines, coming = boundaries_by(rope, script, cycle, cycle + 100, names)
     shown = boundaries_on(terminal.screen)

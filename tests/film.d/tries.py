@@ -28,7 +28,7 @@ DIGITS = {'0': 'abcdef', '1': 'bc', '2': 'abdeg', '3': 'abcdg', '4': 'bcfg', '5'
           '8': 'abcdefg', '9': 'abcdfg', '_': '', '?': 'abeg'}
 SIGNS = {'+': 'g lower upper', '-': 'g', '_': ''}
 
-# The lamps row by row, and how the DSKY's left and right columns are lit: white tells a state, amber is a caution.
+# The lamps row by row, and how the DSKY's left and right columns are lit: white is a state, amber a caution.
 LAMPS = ['UPLINK ACTY', 'TEMP', 'NO ATT', 'GIMBAL LOCK', '', 'PROG', 'KEY REL', '', 'OPR ERR', 'TRACKER', '', 'ALT', 'ISS', 'VEL']
 WHITE, AMBER, DARK = 'rgb(255, 243, 207)', 'rgb(255, 185, 56)', 'rgb(61, 63, 57)'
 GREEN, DARK_GREEN = 'rgb(77, 255, 143)', 'rgb(22, 32, 26)'
@@ -424,7 +424,7 @@ def try_two_films(tries):
 
 
 def try_long_names(tries):
-    """However long the names of files, the cycles and what is told are, all controls are seen."""
+    """However long the names of files, the cycles and the sentences are, all controls are seen."""
     name = 'a-long-folder/' * 12 + 'rope'
     sides = [run([(100, panel(PROG=shown, **{field: '+12345' if field[0] == 'R' else '16' for field in others}))], stop=1000000000, rope=name, script=name)
              for shown, others in (('11', ()), ('12', ('VERB', 'NOUN', 'R1', 'R2', 'R3')))]
@@ -648,7 +648,7 @@ def try_speeds(tries):
             tries.check(f'the speed by {how}', label, tries.look('speed()').split(' ')[0])
             tries.press('Home')
             tries.click('play')
-            # so many that the cycle, a whole number, tells the speed within a hundredth
+            # enough that the cycle, a whole number, gives the speed within a hundredth
             seen = tries.look(f'pictures({12 if times >= 1 else 30 if times > 0.01 else 60})')
             tries.click('play')
             cycles, seconds = seen[-1][1] - seen[0][1], (seen[-1][0] - seen[0][0]) / 1000

@@ -51,7 +51,7 @@ class Dsky:
         self.send(*(KEYS[name] for name in names))
 
     def take(self, seconds):
-        """Takes what comes within so many seconds, or at once."""
+        """Takes what comes within this many seconds, or at once."""
         if not self.is_open or not select.select([self.socket], [], [], seconds)[0]:
             return
         try:
@@ -84,7 +84,7 @@ class Dsky:
             self.take(0)
 
     def lasts(self, seconds=LONGEST):
-        """Whether the connection is still there after so many seconds."""
+        """Whether the connection is still there after this many seconds."""
         self.until(lambda dsky: not dsky.is_open, seconds)
         return self.is_open
 

@@ -598,7 +598,7 @@ def try_four():
 
 
 def pour(dsky, data):
-    """Sends so many bytes, as far as the other end takes them; returns whether it lost its connection."""
+    """Sends this many bytes, as far as the other end takes them; returns whether it lost its connection."""
     try:
         for at in range(0, len(data), 65536):
             dsky.socket.sendall(data[at:at + 65536])
@@ -691,7 +691,7 @@ class Beside:
         self.session.inject(lambda machine: machine.go_to(cycle))
 
     def script(self, events):
-        """The lines of the script, once there are so many, or after LONGEST."""
+        """The lines of the script, once there are this many, or after LONGEST."""
         end = time.monotonic() + LONGEST
         while self.session.script().count("\n") < events and time.monotonic() < end:
             time.sleep(0.01)

@@ -151,7 +151,7 @@ def refused(name, words, told):
 
 
 def try_refusals():
-    """What cannot be flown or saved is told in a sentence, before the flight."""
+    """What cannot be flown or saved is named by a sentence, before the flight."""
     folder, kept = os.path.join(scratch, "folder"), os.path.join(scratch, "kept")
     os.mkdir(folder)
     with open(kept, "w") as file:
@@ -175,7 +175,7 @@ def try_refusals():
 
 
 def try_full():
-    """A script that finds no room is told in a sentence, after the flight."""
+    """A script that finds no room is named by a sentence, after the flight."""
     if not os.path.exists("/dev/full"):
         return
     words = [sys.executable, "-B", example.__file__, "--seconds", "1", "--program", console, "--save", "/dev/full"]

@@ -13,7 +13,7 @@ def second(line: str) -> str:
 
 
 def many(count: int, kind: str) -> str:
-    """A file of so many quantities of a kind."""
+    """A file of this many quantities of a kind."""
     return "".join(f"q{number} 0100 {kind} B0\n" for number in range(count))
 
 

@@ -32,7 +32,8 @@ CHOICES: List[List[str]] = [
 
 
 class When(NamedTuple):
-    """What chooses the rows, and the words that say so: each so many cycles, or so many places from one on, or changes."""
+    """What chooses the rows, and the option for it: every `value` cycles, an order at one of the `value` places from
+    `place` on, or changes."""
 
     kind: str
     value: int

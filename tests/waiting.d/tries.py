@@ -147,7 +147,7 @@ class Traced:
         return sum(start < cycle for start in self.starts)
 
     def at(self, boundaries):
-        """The cycle after so many boundaries."""
+        """The cycle after this many boundaries."""
         return self.starts[boundaries] if boundaries < len(self.starts) else self.stop
 
 
