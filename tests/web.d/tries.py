@@ -33,6 +33,7 @@ import ends
 import filmed
 import found
 import guides
+import lesson
 import listed
 import listens
 import looks
@@ -1554,7 +1555,7 @@ TRIES = (
     try_writes, try_views, try_look, try_rate, try_latency, try_killed, try_end, try_blanks, try_two, try_command,
     try_serve, try_gone, try_hangup, try_lander, try_late_view, try_names_and_pictures, try_stop, try_random, try_face,
     try_client, *ends.TRIES, *rooms.TRIES, *times.TRIES, *found.TRIES, *listens.TRIES, *looks.TRIES, *quantities.TRIES,
-    *nouns.TRIES, *timelines.TRIES, *causes.TRIES, *stepped.TRIES,
+    *nouns.TRIES, *timelines.TRIES, *causes.TRIES, *stepped.TRIES, *lesson.TRIES,
 )
 
 
