@@ -10,6 +10,7 @@ from pathlib import Path
 
 from followed import try_followed
 from judge import STUDY, TOP, finish, judge, scratch_folder
+from source_lines import try_source_lines
 
 HERE = Path(__file__).parent
 BANKS = [2, 3, 0, 1, *range(4, 36)]  # in the order of a rope file
@@ -227,6 +228,7 @@ def main():
     try_listing(scratch)
     try_compared(scratch)
     try_interpretive(scratch)
+    try_source_lines(scratch)
     shown = subprocess.run([Path(TOP, "tests/pages"), Path(TOP, "examples/waitlist/README.md")], capture_output=True, text=True)
     judge("the commands of the example's page", (0, ""), (shown.returncode, shown.stderr))
 

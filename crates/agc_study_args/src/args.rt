@@ -40,6 +40,8 @@ pub struct RunOptions {
     pub limit: u64,
     /// The value of `--until`.
     pub until: Option<String>,
+    /// The listings whose source lines are printed too (`--listing`): that of the first run, and that of the second.
+    pub listings: Vec<String>,
 }
 
 /// How `list` prints a rope.

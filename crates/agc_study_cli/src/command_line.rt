@@ -9,6 +9,10 @@ use agc_cli::{
 use clap::{Arg, ArgAction, Command};
 use std::alloc::{AllocError, Global};
 
+/// The help of `--listing` of one run.
+const SOURCE_LINES: &str =
+    "Show the source line of each place, from the listing that weave --write-listing writes";
+
 static KINDS: [&str; 3] = ["writes", "interrupts", "jumps"];
 
 static STYLES: [&str; 1] = ["yul"];
@@ -134,6 +138,7 @@ impl<'a> Subcommands<'a> {
             .names_option(
                 "Show names from this file (a line for each, PLACE NAME), and accept them as places",
             )
+            .source_lines_option()
             .operands_option()
             .decimal_option();
         self.with(
@@ -162,9 +167,8 @@ impl<'a> Subcommands<'a> {
             )
             .whole_option()
             .csv_option()
-            .names_option(
-                "Show names from this file (a line each, PLACE NAME), and sum by routine",
-            );
+            .names_option("Show names from this file (a line each, PLACE NAME), and sum by routine")
+            .source_lines_without("csv");
         self.with(
             "profile",
             "Runs a rope and a script, and prints how often each word ran and where the cycles went.",
@@ -187,6 +191,7 @@ impl<'a> Subcommands<'a> {
             .names_option(
                 "Show names of jobs and tasks from this file: a line for each, PLACE NAME",
             )
+            .source_lines_without("timeline")
             .timeline_option()
             .mark_option();
         self.with(
@@ -247,7 +252,8 @@ impl<'a> Subcommands<'a> {
             .until_named()
             .by_option()
             .brief_option()
-            .names_of_runs();
+            .names_of_runs()
+            .listings_of_runs();
         self.with(
             "compare",
             "Runs two ropes with two scripts, and prints where the runs differ first.",
@@ -737,6 +743,16 @@ impl<'a> ArgList<'a> {
         )
     }
 
+    fn source_lines_option(self) -> ArgList<'a> {
+        self.option("listing", "FILE", SOURCE_LINES)
+    }
+
+    /// Adds `--listing`, which excludes another option.
+    fn source_lines_without(self, other: &'a str) -> ArgList<'a> {
+        let arg = option(self.alloc, "listing", "FILE", SOURCE_LINES).conflicts_with(other);
+        self.with_tied(arg)
+    }
+
     fn bank_option(self) -> ArgList<'a> {
         self.option("bank", "BB", "List only this bank: octal, 00 to 43")
     }
@@ -818,6 +834,11 @@ impl<'a> ArgList<'a> {
             .conflicts_with("by");
         self.with_tied(arg)
     }
+
+    fn listings_of_runs(self) -> ArgList<'a> {
+        let arg = listings_of_runs(self.alloc);
+        self.with_tied(arg)
+    }
 }
 
 /// Returns `--all` of `list`.
@@ -862,4 +883,16 @@ fn sources_flag<'a>(alloc: Global) -> Result<Arg<'a>, AllocError> {
     .conflicts_with("form")?
     .conflicts_with("form-b")?
     .conflicts_with("ignore-parity")
+}
+
+/// Returns `--listing` of `compare`, for which the lines of the runs have to be printed.
+fn listings_of_runs<'a>(alloc: Global) -> Result<Arg<'a>, AllocError> {
+    repeated(
+        alloc,
+        "listing",
+        "FILE",
+        "Show the source line of each place, from the listing that weave --write-listing writes; repeat it for the second rope",
+    )
+    .conflicts_with("words")?
+    .conflicts_with("by")
 }

@@ -1,4 +1,5 @@
 //! Parses the arguments that the subcommands share: the files of a run, and where it ends.
+use crate::values::texts_of;
 use agc_cli::{form_of, number_of, path_of, text_of};
 use agc_load::RunFiles;
 use agc_store::RopeForm;
@@ -13,6 +14,7 @@ pub(crate) fn options_of(alloc: Global, given: &ArgMatches<'_>) -> Result<RunOpt
         ignores_parity: given.get_flag("ignore-parity"),
         limit: number_of(given, "limit", 0),
         until: text_of(alloc, given, "until")?,
+        listings: texts_of(alloc, given, "listing")?,
     })
 }
 

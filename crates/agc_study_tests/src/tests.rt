@@ -15,6 +15,7 @@ mod progress;
 mod restore;
 mod rope_listing;
 mod source;
+mod sources;
 mod study;
 mod trace;
 mod transcriptions;

@@ -471,12 +471,13 @@ fn other_files_are_reported_last(rt: HostRuntime) {
 }
 
 /// Returns the options of a classic rope's run up to a limit.
-fn options(limit: u64) -> RunOptions {
+fn options(rt: &impl AllocGlobal, limit: u64) -> RunOptions {
     RunOptions {
         form: RopeForm::Classic,
         ignores_parity: false,
         limit,
         until: None,
+        listings: Vec::new(rt.alloc()),
     }
 }
 
@@ -493,7 +494,7 @@ fn comparing(rt: &impl AllocGlobal, limit: u64) -> CompareArgs {
     CompareArgs {
         files: no_files(rt),
         other: no_files(rt),
-        options: options(limit),
+        options: options(rt, limit),
         other_form: RopeForm::Classic,
         shown: None,
         names: None,
@@ -652,11 +653,11 @@ fn the_run_at_fault_is_named(rt: HostRuntime) {
 }
 
 /// Returns the arguments to film a run up to cycle 10.
-fn filming(files: RunFiles, part: Span, watch: Option<String>) -> FilmArgs {
+fn filming(rt: &impl AllocGlobal, files: RunFiles, part: Span, watch: Option<String>) -> FilmArgs {
     FilmArgs {
         files,
         other: None,
-        options: options(10),
+        options: options(rt, 10),
         part,
         watch,
         names: None,
@@ -681,7 +682,7 @@ fn runs_are_filmed(rt: HostRuntime) {
         rope: owned(&rt, "prog12"),
         script: owned(&rt, "pro"),
     };
-    let args = filming(files, Span::whole(), None);
+    let args = filming(&rt, files, Span::whole(), None);
     let rope = [0x70, 0x08, 0x00, 0x0C, 0x04, 0x10, 0x30, 0x06, 0xB0, 0xF2];
     let page = filmed(&rt, &args, rope.as_slice(), b"7 pro down")
         .ok()
@@ -701,7 +702,7 @@ fn runs_are_filmed(rt: HostRuntime) {
 fn watching(rt: &(impl AllocGlobal + Abort), watch: &str) -> JobsArgs {
     JobsArgs {
         files: no_files(rt),
-        options: options(10),
+        options: options(rt, 10),
         watch: owned(rt, watch),
         span: Span { from: 10, to: 10 },
         names: None,
@@ -789,6 +790,7 @@ fn the_text_of_watch_is_reported_before_that_of_until(rt: HostRuntime) {
 /// Returns the arguments to film the last two cycles of a run, with its tables.
 fn filming_tables(rt: &(impl AllocGlobal + Abort), watch: &str) -> FilmArgs {
     filming(
+        rt,
         no_files(rt),
         Span { from: 9, to: 10 },
         Some(owned(rt, watch)),
