@@ -25,8 +25,9 @@ def run(*args):
     return done.returncode, done.stdout, done.stderr.decode()
 
 
-def draw_rope(draw, banks, least=100, most=BANK - 1):
-    """Returns the sixteen bits of each place of a rope with right sums in these banks. The first words name each other."""
+def draw_rope(draw, banks, least=100, most=BANK - 1, code=3):
+    """Returns the sixteen bits of each place of a rope with right sums in these banks. Two words name the first one as orders
+    of this code."""
     words = [0] * (36 * BANK)
     for bank in banks:
         count = draw.randrange(least, most + 1) - 1
@@ -34,10 +35,25 @@ def draw_rope(draw, banks, least=100, most=BANK - 1):
         for at in range(count):
             word = draw.randrange(1, 0o77777) if at > 3 else 0o10000 * draw.choice([1, 3, 4]) + first + draw.choice([0, 2])
             words[bank * BANK + at] = with_parity(word)
-        words[bank * BANK + 1] = words[bank * BANK + 3] = with_parity(0o30000 + first)
-        rest = total(word >> 1 for word in words[bank * BANK:(bank + 1) * BANK])
-        words[bank * BANK + count] = with_parity(total([bank, 0o77777 - rest]))
+        words[bank * BANK + 1] = words[bank * BANK + 3] = with_parity(0o10000 * code + first)
+        words[bank * BANK + count] = 2
+        put_sum(words, bank, bank)
     return words
+
+
+def put_sum(words, bank, wanted):
+    """Makes the sum of a bank what is wanted, by its last word."""
+    last = max(at for at in range(bank * BANK, (bank + 1) * BANK) if words[at])
+    rest = total(words[at] >> 1 for at in range(bank * BANK, last))
+    words[last] = with_parity(total([wanted, 0o77777 - rest]))
+
+
+def judge_none(what, words):
+    """Judges that no pattern is named, in both forms."""
+    write("image", words)
+    judge.judge(f"{what}: no pattern", [], patterns("image", "--form", "parity"))
+    write("image", without_parity(in_classic_order(words)))
+    judge.judge(f"{what}: no pattern, classic", [], patterns("image"))
 
 
 def patterns(name, *options):
@@ -232,6 +248,86 @@ def missing(draw):
                                                  f"patch --banks {banks} puts it in")], patterns("image", "--form", "parity"))
 
 
+# What shows nothing
+
+def one_wrong_bit(draw):
+    """One wrong bit makes the sum of a bank the number of another one, which names no pattern."""
+    for n in range(12):
+        bit = n % 5
+        bank = draw.randrange(1, 36 - (1 << bit))
+        words = draw_rope(draw, {bank, *draw.sample(range(1, 36), n % 4)})
+        at = next(at for at in range(bank * BANK, (bank + 1) * BANK) if words[at] and not words[at] >> 1 + bit & 1)
+        words[at] ^= 2 << bit
+        judge_none(f"one wrong bit {n}", words)
+        words[at] ^= 1
+        judge_none(f"one wrong bit {n}, with the parity that fits it", words)
+
+
+def alone_in_a_file(draw):
+    """A single bank in a file names its number only if all its parity bits are right."""
+    for n in range(1, 6):
+        words = draw_rope(draw, [5 * n])[5 * n * BANK:(5 * n + 1) * BANK]
+        write("image", words)
+        judge.judge(f"a bank alone {n}", [("moved", f"the file begins with bank {5 * n:02o}, by the sums of 1 of its banks (possible)",
+                                           f"--first-bank {5 * n:02o}")], patterns("image", "--form", "parity"))
+        write("image", without_parity(words))
+        judge.judge(f"a bank alone {n}: classic", [], patterns("image"))
+        words[7] ^= 2
+        words[8] ^= 2 if words[7] >> 1 & 1 != words[8] >> 1 & 1 else 4
+        write("image", words)
+        judge.judge(f"a bank alone {n}: wrong words", [], patterns("image", "--form", "parity"))
+
+
+def wrong_first_word(draw):
+    """A bank whose first word is wrong, before one that begins with the word that it should be, is not one place on."""
+    for n in range(6):
+        bank = draw.randrange(4, 34)
+        words = draw_rope(draw, [bank, bank + 1, *draw.sample([1, 2, 3], n % 3)])
+        words[(bank + 1) * BANK] = words[bank * BANK]
+        put_sum(words, bank + 1, bank + 1)
+        words[bank * BANK] = with_parity(draw.randrange(1, 0o77777))
+        judge_none(f"wrong first word {n}", words)
+
+
+def filled_with_ones(draw):
+    """Unused places with sixteen ones, in banks whose sums are their numbers or the complements, are not inverted words."""
+    for n in range(6):
+        banks = draw.sample(range(1, 36), 4)
+        words = draw_rope(draw, banks, 100, BANK - 30)
+        for bank in banks[n % 3 + 1:]:
+            put_sum(words, bank, 0o77777 - bank)
+        words = [word or 0xFFFF for word in words]
+        write("image", words)
+        judge.judge(f"filled with ones {n}", [], patterns("image", "--form", "parity"))
+
+
+def zero_first(draw):
+    """Banks that begin with a constant +0 are not one place on."""
+    for n in range(6):
+        banks = draw.sample(range(1, 36), 1 + n)
+        words = draw_rope(draw, banks)
+        for bank in banks:
+            words[bank * BANK] = with_parity(0)
+            put_sum(words, bank, bank)
+        judge_none(f"zero first {n}", words)
+
+
+def columns_apart(draw):
+    """Two bits that are stuck in two banks: no other layout is suspected, and `repair` mends them without `--stuck` too."""
+    for n in range(4):
+        words = draw_rope(draw, [9, 20], 700)
+        stick(words, 3 + n, n % 2, 9 * BANK, BANK)
+        stick(words, 12 - n, 1, 20 * BANK, BANK)
+        write("image", words)
+        report = run("check", "image", "--form", "parity")[1].decode()
+        judge.check(f"columns apart {n}: stuck", "    more than one word in ten: a bit is stuck in part of the rope, as said below (likely)\n" in report)
+        judge.judge(f"columns apart {n}: patterns", 2, report.count("\nstuck: "))
+        judge.check(f"columns apart {n}: no other layout", "another layout" not in report)
+        stuck = run("repair", "image", "--form", "parity", "--stuck")
+        judge.judge(f"columns apart {n}: repairs", stuck, run("repair", "image", "--form", "parity"))
+        judge.check(f"columns apart {n}: some", stuck[0] == 0 and stuck[1].count(b"\n") > 300)
+
+
 # Bits and places
 
 CHANGES = {
@@ -288,6 +384,19 @@ def one_place(draw):
             made = read(run("convert", "image", "--form", "parity", "--moved", kind.split()[-1], "--to", "parity",
                             "--ignore-parity")[1])
             judge.check(f"{kind} {n}: it comes back", made[1:] == sound[1:len(made)])
+    for n in range(4):
+        sound = draw_rope(draw, [2, *sorted(draw.sample(range(4, 36), 4))], code=n % 2)
+        words = without_parity(in_classic_order(sound))
+        write("image", [*words[1:], 0])
+        found = patterns("image")
+        judge_lines(f"classic {n}: one place back", [("one place back", "all words; with that undone the sums of all used banks are right, "
+                                                      "but for bank 02, which lost a word (likely)")], found)
+        judge_mended(f"classic {n}: one place back", [0, *words[1:]], found)
+        write("image", [0, *words[:-1]])
+        found = patterns("image")
+        judge_lines(f"classic {n}: one place on", [("one place on", "all words; with that undone the sums of all used banks are right "
+                                                    "(likely)")], found)
+        judge_mended(f"classic {n}: one place on", words, found)
     write("image", [0o123456 | 1, *sound[:-1]])
     remark = run("convert", "image", "--form", "parity", "--moved", "on", "--to", "parity", "--ignore-parity")[2]
     judge.check(f"one place on: the word left out: {remark}", f"; left out {(0o123456 | 1) >> 1:05o}" in remark)
@@ -305,4 +414,5 @@ def sound_ropes(draw):
         judge.judge(f"examples/{name}", [], patterns(os.path.join(judge.TOP, f"examples/{name}/rope")))
 
 
-GROUPS = (stuck_parts, few_words, exchanged, left_out, module_alone, twice, missing, changed_words, one_place, sound_ropes)
+GROUPS = (stuck_parts, few_words, exchanged, left_out, module_alone, twice, missing, one_wrong_bit, alone_in_a_file,
+          wrong_first_word, filled_with_ones, zero_first, columns_apart, changed_words, one_place, sound_ropes)

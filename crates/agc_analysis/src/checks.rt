@@ -9,13 +9,13 @@ ghost use Rattle.agc_analysis.specs.declared.fault.AnalysisFault.TheVariants as 
 use crate::fault::AnalysisFault;
 use crate::rope_bytes::read_banks;
 use agc_asm::{check_listing, erase_remarks, line_remarks};
-use agc_check::{check, check_keys, check_rope, may_be_modules, push_findings};
+use agc_check::{check, check_keys, check_rope, may_be_modules};
 use agc_io::{KEY_BYTES, ROPE_BYTES, ReadError, TEXT_BYTES, read_limited};
 use agc_listing::Report;
 use agc_load::LoadFault;
 use agc_store::RopeForm;
 use agc_study_args::RunInputs;
-use agc_text::push_patterns;
+use agc_text::push_damage;
 use std::alloc::{AllocError, Global};
 use std::io::Read;
 
@@ -91,8 +91,7 @@ fn report_on_rope(
     file: &[u8],
 ) -> Result<Report, AllocError> {
     let Report { mut text, is_sound } = check_rope(alloc, form, file)?;
-    push_findings(alloc, &mut text, form, is_placed, file)?;
-    push_patterns(alloc, &mut text, form, is_placed, file)?;
+    push_damage(alloc, &mut text, form, is_placed, file)?;
     Ok(Report { text, is_sound })
 }
 

@@ -145,8 +145,8 @@ struct PrintedRepairs {
     remark: String,
 }
 
-/// Returns the repairs of a rope file in the form with parity: those of words in stuck columns with `--stuck`, else those of
-/// single words.
+/// Returns the repairs of a rope file in the form with parity: those of words in stuck columns with `--stuck`, or if more words
+/// are wrong than a damage of single words makes, else those of single words.
 fn printed_repairs<R: Read>(
     alloc: Global,
     args: &RepairArgs,
@@ -155,14 +155,33 @@ fn printed_repairs<R: Read>(
     let bytes = read_banks(alloc, RopeForm::Parity, args.first_bank, reader)?;
     let file = bytes.as_slice();
     if args.mends_columns {
-        let found = repairs_of_columns(alloc, file).map_err(no_memory)?;
-        refuse_no_parity(args, found.wrong, file)?;
-        let remark = columns_remark(alloc, &found).map_err(no_memory)?;
+        return column_repairs(alloc, args, file);
+    }
+    let found = found_repairs(alloc, args, file)?;
+    if found.damage != Damage::Layout {
+        let remark = repairs_remark(alloc, &found).map_err(no_memory)?;
         let text = found.text;
         return Ok(PrintedRepairs { text, remark });
     }
-    let found = found_repairs(alloc, args, file)?;
-    let remark = repairs_remark(alloc, &found).map_err(no_memory)?;
+    let printed = column_repairs(alloc, args, file)?;
+    if printed.text.is_empty() {
+        Err(AnalysisFault::OtherLayout)
+    } else {
+        Ok(printed)
+    }
+}
+
+/// Returns the repairs of words where a bit is stuck in part of the rope.
+fn column_repairs(
+    alloc: Global,
+    args: &RepairArgs,
+    file: &[u8],
+) -> Result<PrintedRepairs, AnalysisFault>
+    requires { length file.now % 2 ≡ 0 }
+{
+    let found = repairs_of_columns(alloc, file).map_err(no_memory)?;
+    refuse_no_parity(args, found.wrong, file)?;
+    let remark = columns_remark(alloc, &found).map_err(no_memory)?;
     let text = found.text;
     Ok(PrintedRepairs { text, remark })
 }
@@ -208,7 +227,7 @@ fn refuse_no_parity(args: &RepairArgs, wrong: usize, file: &[u8]) -> Result<(), 
     }
 }
 
-/// Returns the repairs of single words. Refuses a file with more wrong words than a damage of single words makes.
+/// Returns the repairs of single words, or those of a bit that is stuck in all wrong words.
 fn found_repairs(
     alloc: Global,
     args: &RepairArgs,
@@ -219,11 +238,7 @@ fn found_repairs(
     let is_placed = args.first_bank.is_some() || !may_be_modules(file.len());
     let found = file_repairs(alloc, file, is_placed, args.most).map_err(no_memory)?;
     refuse_no_parity(args, found.wrong, file)?;
-    if found.damage == Damage::Layout {
-        Err(AnalysisFault::OtherLayout)
-    } else {
-        Ok(found)
-    }
+    Ok(found)
 }
 
 /// Returns whether a parity bit is 1: the last bit of a word.

@@ -2,8 +2,8 @@
 //! moved or changed bit by bit.
 use crate::bank_list::{push_banks, push_list};
 use crate::bank_sums::{
-    BANKS, RopeBits, WordsRead, has_same_words, is_all_ones, is_first_named, is_used, is_used_read,
-    number_of, sum_read,
+    BANKS, RopeBits, WordsRead, has_last_bit, has_same_words, has_wrong_parity, is_all_ones,
+    is_first_empty, is_first_named, is_used, is_used_read, number_of, sum_read,
 };
 use agc_check::{SumFit, fit_of};
 use agc_mend::NO_BANK;
@@ -20,7 +20,7 @@ struct Banks {
     used: Vec<bool>,
     /// The bank whose number its sum is, or whose complement.
     named: Vec<Option<usize>>,
-    /// The bank whose words it has, by its sum; `None` if they are its own or not known.
+    /// The bank whose words it has, by its sum and that of another bank; `None` if they are its own or not known.
     held: Vec<Option<usize>>,
     /// How its words have to be read to make its sum right, if that is not as they are.
     read: Vec<Option<WordsRead>>,
@@ -35,7 +35,7 @@ pub(crate) fn push_bank_patterns(
     rope: &RopeBits,
 ) -> Result<(), AllocError> {
     let banks = banks_of(alloc, form, rope)?;
-    match first_bank(&banks) {
+    match first_bank(form, rope, &banks) {
         Some((first, count)) if !is_placed => push_first_bank(text, first, count)?,
         _ => push_moved(alloc, text, form, &banks)?,
     }
@@ -70,18 +70,74 @@ fn banks_of(alloc: Global, form: RopeForm, rope: &RopeBits) -> Result<Banks, All
         } else {
             None
         };
-        let held = if named == Some(bank) { None } else { named };
-        let read = if used && held.is_none() {
+        banks.used.push(used)?;
+        banks.named.push(named)?;
+    }
+    for bank in 0..BANKS {
+        let held = if is_exchanged(&banks, bank) || is_in_run(&banks, bank) {
+            other_named(&banks, bank)
+        } else {
+            None
+        };
+        let read = if is_at(banks.used.as_slice(), bank) && held.is_none() {
             change_of(form, rope, bank)
         } else {
             None
         };
-        banks.used.push(used)?;
-        banks.named.push(named)?;
         banks.held.push(held)?;
         banks.read.push(read)?;
     }
     Ok(banks)
+}
+
+/// Returns the other bank whose number the sum of a bank is. One wrong bit makes such a sum too, so it shows nothing alone.
+fn other_named(banks: &Banks, bank: usize) -> Option<usize> {
+    match at(banks.named.as_slice(), bank) {
+        Some(other) if other != bank => Some(other),
+        _ => None,
+    }
+}
+
+/// Returns whether the sums of a bank and of another one are each the number of the other.
+fn is_exchanged(banks: &Banks, bank: usize) -> bool {
+    match other_named(banks, bank) {
+        Some(other) => other_named(banks, other) == Some(bank),
+        None => false,
+    }
+}
+
+/// Returns whether the sum of the used bank before or after a bank is the number of a bank as far away as for this one.
+fn is_in_run(banks: &Banks, bank: usize) -> bool {
+    let (before, after) = neighbours(banks, bank);
+    are_in_run(banks, bank, before) || are_in_run(banks, bank, after)
+}
+
+/// Returns the used banks nearest to a bank.
+fn neighbours(banks: &Banks, bank: usize) -> (Option<usize>, Option<usize>) {
+    let (mut before, mut after) = (None, None);
+    for other in 0..BANKS {
+        if is_at(banks.used.as_slice(), other) {
+            if other < bank {
+                before = Some(other);
+            } else if other > bank && after.is_none() {
+                after = Some(other);
+            }
+        }
+    }
+    (before, after)
+}
+
+fn are_in_run(banks: &Banks, bank: usize, next: Option<usize>) -> bool {
+    let Some(next) = next else {
+        return false;
+    };
+    if is_exchanged(banks, bank) || is_exchanged(banks, next) {
+        return false;
+    }
+    match (other_named(banks, bank), other_named(banks, next)) {
+        (Some(there), Some(other)) => next.saturating_add(there) == bank.saturating_add(other),
+        _ => false,
+    }
 }
 
 /// Returns how the words of a used bank have to be read to make its sum right, if that is not as they are.
@@ -95,7 +151,7 @@ fn change_of(form: RopeForm, rope: &RopeBits, bank: usize) -> Option<WordsRead> 
         ]
         .iter()
         .copied()
-        .find(|read| fit_in(rope, bank, *read) != SumFit::Neither),
+        .find(|read| may_be_read(form, rope, bank, *read)),
         SumFit::Complement if is_all_ones(form, rope.plain.as_slice(), bank, 0xFFFF) => Some(
             WordsRead::Inverted,
         ),
@@ -103,12 +159,24 @@ fn change_of(form: RopeForm, rope: &RopeBits, bank: usize) -> Option<WordsRead> 
             Some(WordsRead::WordInverted)
         }
         _
-            if is_first_named(rope.plain.as_slice(), bank)
+            if is_first_named(form, rope.plain.as_slice(), bank)
                 && fit_in(rope, bank, WordsRead::Later) != SumFit::Neither => {
             Some(WordsRead::Later)
         }
         _ => None,
     }
+}
+
+/// Returns whether the sum of a bank is right if its words are read in one way, and no word speaks against that. With its
+/// bits or bytes in another order a word has the parity that it had, but in the classic form some unused bits are 1.
+fn may_be_read(form: RopeForm, rope: &RopeBits, bank: usize, read: WordsRead) -> bool {
+    let bits = rope.plain.as_slice();
+    let may_be = match (form, read) {
+        (RopeForm::Parity, _) => !has_wrong_parity(bits, bank),
+        (RopeForm::Classic, WordsRead::Reversed | WordsRead::Exchanged) => has_last_bit(bits, bank),
+        (RopeForm::Classic, _) => true,
+    };
+    may_be && fit_in(rope, bank, read) != SumFit::Neither
 }
 
 fn fit_in(rope: &RopeBits, bank: usize, read: WordsRead) -> SumFit {
@@ -128,19 +196,24 @@ fn is_at(list: &[bool], bank: usize) -> bool {
 }
 
 /// Returns the bank with which the file begins and how many banks show it, if the sum of each of its banks is the number of a
-/// bank equally far on.
-fn first_bank(banks: &Banks) -> Option<(usize, usize)> {
+/// bank equally far on. The sum of a single bank shows it only if the bank has parity bits, all of them right.
+fn first_bank(form: RopeForm, rope: &RopeBits, banks: &Banks) -> Option<(usize, usize)> {
     let mut first = None;
     let mut count = 0usize;
+    let mut is_sound = form == RopeForm::Parity;
     for bank in 0..BANKS {
         if is_at(banks.used.as_slice(), bank) {
-            let there = at(banks.held.as_slice(), bank)?.checked_sub(bank)?;
+            let there = other_named(banks, bank)?.checked_sub(bank)?;
             if first.is_some() && first != Some(there) {
                 return None;
             }
             first = Some(there);
             count = count.saturating_add(1);
+            is_sound = is_sound && !has_wrong_parity(rope.plain.as_slice(), bank);
         }
+    }
+    if count < 2 && !is_sound {
+        return None;
     }
     Some((first?, count))
 }
@@ -176,11 +249,23 @@ fn push_moved(
             }
         }
     }
-    if any {
+    if any && !is_any_lost(banks) {
         push_mend(text, form, banks)
     } else {
         Ok(())
     }
+}
+
+/// Returns whether the words of a used bank would be lost if each moved bank were put into its place: its own sum is wrong, and
+/// another bank belongs there.
+fn is_any_lost(banks: &Banks) -> bool {
+    for bank in 0..BANKS {
+        let stays = is_at(banks.used.as_slice(), bank) && at(banks.held.as_slice(), bank).is_none();
+        if stays && usize::from(source_of(banks, bank)) != bank {
+            return true;
+        }
+    }
+    false
 }
 
 fn tell(told: &mut Vec<bool>, bank: usize) {
@@ -218,12 +303,6 @@ fn push_run(
         }
     }
     let end = last.saturating_add(other).saturating_sub(first);
-    if count < 2 {
-        return writeln!(
-            text,
-            "moved: bank {first:02o} has the words of bank {other:02o}; its sum is that number (possible)"
-        );
-    }
     write!(
         text,
         "moved: banks {first:02o} to {last:02o} have the words of banks {other:02o} to {end:02o}; their sums, {count}, are those numbers (likely)"
@@ -442,45 +521,138 @@ fn push_changed(
     if changed.is_empty() {
         return Ok(());
     }
+    if are_all_changed(form, rope, banks, read) {
+        push_all_changed(text, form, rope, read)
+    } else if shows_change(form, rope, banks, read, changed.len()) {
+        push_banks_changed(text, form, changed.as_slice(), read)
+    } else {
+        Ok(())
+    }
+}
+
+/// Returns whether `count` banks, but not all, show a change of their words: of a move by one place at least two, of inverted
+/// words no other bank that is filled with ones.
+fn shows_change(
+    form: RopeForm,
+    rope: &RopeBits,
+    banks: &Banks,
+    read: WordsRead,
+    count: usize,
+) -> bool {
+    match read {
+        WordsRead::Later | WordsRead::Earlier => count >= 2,
+        WordsRead::Inverted => !is_other_filled(form, rope, banks, read, 0xFFFF),
+        WordsRead::WordInverted => !is_other_filled(form, rope, banks, read, 0xFFFE),
+        _ => true,
+    }
+}
+
+/// Returns whether a bank that is not read in one way is filled with ones.
+fn is_other_filled(
+    form: RopeForm,
+    rope: &RopeBits,
+    banks: &Banks,
+    read: WordsRead,
+    ones: u16,
+) -> bool {
+    for bank in 0..BANKS {
+        let is_other = is_at(banks.used.as_slice(), bank)
+            && at(banks.read.as_slice(), bank) != Some(read);
+        if is_other && is_all_ones(form, rope.plain.as_slice(), bank, ones) {
+            return true;
+        }
+    }
+    false
+}
+
+/// Appends that all words of a file were changed or moved in one way, and the command that mends them.
+fn push_all_changed(
+    text: &mut String,
+    form: RopeForm,
+    rope: &RopeBits,
+    read: WordsRead,
+) -> Result<(), AllocError> {
     let (kind, option) = names_of(read);
     let name = name_of(form);
-    write!(text, "{kind}: ")?;
-    if are_all_changed(rope, banks, read) {
-        text.push_str(
-            "all words; with that undone the sums of all used banks are right (likely)\n",
-        )?;
-        return writeln!(
-            text,
-            "    mended by: convert ROPE --form {name} {option} --to {name}"
-        );
+    write!(
+        text,
+        "{kind}: all words; with that undone the sums of all used banks are right"
+    )?;
+    match bank_cut(form, read) {
+        Some(bank) if fit_in(rope, bank, read) == SumFit::Neither => {
+            write!(text, ", but for bank {bank:02o}, which lost a word")?;
+        }
+        _ => {}
     }
-    text.push_str("the words of banks ")?;
-    push_list(text, changed.as_slice())?;
+    writeln!(
+        text,
+        " (likely)\n    mended by: convert ROPE --form {name} {option} --to {name}"
+    )
+}
+
+/// Appends the banks whose words were changed or moved in one way, and the commands that mend them.
+fn push_banks_changed(
+    text: &mut String,
+    form: RopeForm,
+    changed: &[u8],
+    read: WordsRead,
+) -> Result<(), AllocError> {
+    let (kind, option) = names_of(read);
+    let name = name_of(form);
+    write!(text, "{kind}: the words of banks ")?;
+    push_list(text, changed)?;
     text.push_str("; with that undone their sums are right (likely)\n")?;
     write!(
         text,
         "    mended by: convert ROPE --form {name} {option} --to {name} --banks "
     )?;
-    push_list(text, changed.as_slice())?;
+    push_list(text, changed)?;
     text.push_str(" > banks, and patch ROPE banks --banks ")?;
-    push_list(text, changed.as_slice())?;
+    push_list(text, changed)?;
     writeln!(text, " --form {name}")
 }
 
-/// Returns whether the sums of all used banks, at least two, are right if their words are read in one way.
-fn are_all_changed(rope: &RopeBits, banks: &Banks, read: WordsRead) -> bool {
-    let is_inverted = matches!(read, WordsRead::Inverted | WordsRead::WordInverted);
+/// Returns whether the sums of all used banks, at least two, are right if their words are read in one way. A bank that lost a
+/// word by the move does not count.
+fn are_all_changed(form: RopeForm, rope: &RopeBits, banks: &Banks, read: WordsRead) -> bool {
+    let cut = bank_cut(form, read);
     let mut used = 0usize;
     for bank in 0..BANKS {
-        if is_used_read(rope, bank, read) {
-            let is_changed = at(banks.read.as_slice(), bank) == Some(read);
-            if !is_changed && (is_inverted || fit_in(rope, bank, read) == SumFit::Neither) {
+        if is_used_read(rope, bank, read) && (cut != Some(bank) || has_sum(rope, bank, read)) {
+            if !may_be_changed(rope, banks, bank, read) {
                 return false;
             }
             used = used.saturating_add(1);
         }
     }
     used >= 2
+}
+
+fn has_sum(rope: &RopeBits, bank: usize, read: WordsRead) -> bool {
+    fit_in(rope, bank, read) != SumFit::Neither
+}
+
+/// Returns whether the words of a bank may have been changed in one way, as those of other banks were.
+fn may_be_changed(rope: &RopeBits, banks: &Banks, bank: usize, read: WordsRead) -> bool {
+    let is_changed = at(banks.read.as_slice(), bank) == Some(read);
+    match read {
+        WordsRead::Inverted | WordsRead::WordInverted => is_changed,
+        WordsRead::Later => {
+            is_changed || is_first_empty(rope.plain.as_slice(), bank) && has_sum(rope, bank, read)
+        }
+        _ => has_sum(rope, bank, read),
+    }
+}
+
+/// Returns the bank that lost a word: the first one of the file if all words are one place back, the last one of a whole rope
+/// if all are one place on.
+fn bank_cut(form: RopeForm, read: WordsRead) -> Option<usize> {
+    match (read, form) {
+        (WordsRead::Earlier, RopeForm::Classic) => Some(2),
+        (WordsRead::Earlier, RopeForm::Parity) => Some(0),
+        (WordsRead::Later, _) => Some(0o43),
+        _ => None,
+    }
 }
 
 /// Returns the name of a pattern, and the option of `convert` that undoes it.

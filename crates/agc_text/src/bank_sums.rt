@@ -168,16 +168,38 @@ pub(crate) fn is_all_ones(form: RopeForm, bits: &[u16], bank: usize, ones: u16) 
     is_filled || is_even
 }
 
-/// Returns whether the first place of a bank is empty, and at least two words of the bank, read as orders, name it.
-pub(crate) fn is_first_named(bits: &[u16], bank: usize) -> bool {
+/// Returns whether a word of a bank has wrong parity.
+pub(crate) fn has_wrong_parity(bits: &[u16], bank: usize) -> bool {
+    (0..SIZE).any(|offset| is_bad_parity(bits_at(bits, start_of(bank).saturating_add(offset))))
+}
+
+/// Returns whether the last of the sixteen bits is 1 in a word of a bank: in the classic form it is unused.
+pub(crate) fn has_last_bit(bits: &[u16], bank: usize) -> bool {
+    (0..SIZE).any(|offset| bits_at(bits, start_of(bank).saturating_add(offset)) % 2 == 1)
+}
+
+/// Returns whether the first place of a bank has no word: in the form with parity a word +0 has a parity bit.
+pub(crate) fn is_first_empty(bits: &[u16], bank: usize) -> bool {
+    bits_at(bits, start_of(bank)) == 0
+}
+
+/// Returns whether the first place of a bank is empty, and at least two words of the bank name it as orders; in the classic
+/// form, in which +0 may be a word of the program, as TC or TCF.
+pub(crate) fn is_first_named(form: RopeForm, bits: &[u16], bank: usize) -> bool {
     let first = match bank {
         2 => 0o4000,
         3 => 0o6000,
         _ => 0o2000,
     };
-    let start = start_of(bank);
+    let last_code = match form {
+        RopeForm::Classic => 1,
+        RopeForm::Parity => 7,
+    };
     let named = (0..SIZE)
-        .filter(|offset| bits_at(bits, start.saturating_add(*offset)) / 2 % 0o10000 == first)
+        .filter(|offset| {
+            let word = bits_at(bits, start_of(bank).saturating_add(*offset)) / 2;
+            word % 0o10000 == first && word / 0o10000 <= last_code
+        })
         .count();
-    bits_at(bits, start) / 2 == 0 && named >= 2
+    is_first_empty(bits, bank) && named >= 2
 }

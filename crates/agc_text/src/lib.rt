@@ -15,5 +15,5 @@ mod stuck_columns;
 pub use bank_changes::push_bank_changes;
 pub use comparison::{SideNames, push_comparison};
 pub use observed::{push_brief, push_shown};
-pub use patterns::push_patterns;
+pub use patterns::{push_damage, push_patterns};
 pub use profile::{ProfileForm, push_profile};
