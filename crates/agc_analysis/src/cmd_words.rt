@@ -15,6 +15,7 @@ use agc_store::{Rope, RopeForm, Store};
 use agc_study_args::{
     LinedRope, RopeRead, WordsArgs, open_file, read_any_rope, text_of_words_apart,
 };
+use agc_text::push_slips;
 use std::alloc::{AllocError, Global};
 use std::io::{Read, Write};
 use std::rt::Files;
@@ -37,7 +38,7 @@ where
 {
     let mut rope = open_file(rt, &args.rope, most_bytes(args));
     let mut other = open_file(rt, &args.other, most_bytes(args));
-    let status = match words_text(rt, args, &mut rope, &mut other) {
+    let status = match words_text(rt, args, &mut rope, &mut other, &mut io.remarks) {
         Ok(ComparedWords { text, wrong }) => {
             rope.remark_wrong(rt.alloc(), wrong.0, &mut io.remarks);
             other.remark_wrong(rt.alloc(), wrong.1, &mut io.remarks);
@@ -107,22 +108,30 @@ fn report_side<E: Write>(alloc: Global, fault: SideFault, err: &mut E) -> u8
 }
 
 /// Returns the text of the words that differ in two files.
-fn words_text<F, R: Read, S: Read>(
+fn words_text<F, R: Read, S: Read, N: Write>(
     rt: &F,
     args: &WordsArgs,
     rope: &mut R,
     other: &mut S,
+    remarks: &mut N,
 ) -> Result<ComparedWords, SideFault>
 where
     F: Files + AllocGlobal,
 {
-    let first = read_side(rt, args, args.form, args.rope.as_str(), rope)?;
-    let second = match read_side(rt, args, args.other_form, args.other.as_str(), other) {
+    if args.are_sources {
+        return sources_text(rt, args, rope, other, remarks);
+    }
+    let first = read_side(rt.alloc(), args, args.form, rope)?;
+    let second = match read_side(rt.alloc(), args, args.other_form, other) {
         Ok(read) => read,
-        Err(SideFault::File(fault)) => return Err(SideFault::File(fault.of_second())),
-        Err(fault) => return Err(fault),
+        Err(fault) => return Err(SideFault::File(fault.of_second())),
     };
-    match text_of_words_apart(rt.alloc(), &first.rope, &second.rope) {
+    compared(rt.alloc(), &first, &second)
+}
+
+/// Returns the text of the words that differ in two ropes.
+fn compared(alloc: Global, first: &Side, second: &Side) -> Result<ComparedWords, SideFault> {
+    match text_of_words_apart(alloc, &first.rope, &second.rope) {
         Ok(text) => Ok(ComparedWords {
             text,
             wrong: (first.wrong, second.wrong),
@@ -131,24 +140,83 @@ where
     }
 }
 
-/// Reads a rope file, or assembles the source at a path.
-fn read_side<F, R: Read>(
+/// Returns the text of the words that differ in two sources, then the slips between two typed listings. If a source is faulty,
+/// the slips are remarks.
+fn sources_text<F, R: Read, S: Read, N: Write>(
     rt: &F,
     args: &WordsArgs,
-    form: RopeForm,
-    path: &str,
-    reader: &mut R,
-) -> Result<Side, SideFault>
+    source: &mut R,
+    other: &mut S,
+    remarks: &mut N,
+) -> Result<ComparedWords, SideFault>
 where
     F: Files + AllocGlobal,
 {
-    let alloc = rt.alloc();
-    if args.are_sources {
-        return read_source(rt, path, reader);
+    let first = read_text(rt.alloc(), source)?;
+    let second = match read_text(rt.alloc(), other) {
+        Ok(text) => text,
+        Err(fault) => {
+            let _first = read_source(rt, args.rope.as_str(), first)?;
+            return Err(SideFault::File(fault.of_second()));
+        }
+    };
+    let slips = slips_between(rt.alloc(), first.as_slice(), second.as_slice())?;
+    match assembled(rt, args, first, second) {
+        Ok(words) => with_slips(words, slips.as_str()),
+        Err(fault) => {
+            let _written = remarks.write_all(slips.as_bytes());
+            Err(fault)
+        }
     }
+}
+
+/// Returns the likely slips between two typed listings.
+fn slips_between(alloc: Global, first: &[u8], second: &[u8]) -> Result<String, AnalysisFault> {
+    let mut slips = String::new(alloc);
+    match push_slips(alloc, &mut slips, first, second) {
+        Ok(()) => Ok(slips),
+        Err(_) => Err(NO_MEMORY),
+    }
+}
+
+/// Appends the slips between two typed listings.
+fn with_slips(words: ComparedWords, slips: &str) -> Result<ComparedWords, SideFault> {
+    let mut words = words;
+    match words.text.push_str(slips) {
+        Ok(()) => Ok(words),
+        Err(_) => Err(SideFault::File(NO_MEMORY)),
+    }
+}
+
+/// Assembles two sources and compares their words.
+fn assembled<F>(
+    rt: &F,
+    args: &WordsArgs,
+    first: Vec<u8>,
+    second: Vec<u8>,
+) -> Result<ComparedWords, SideFault>
+where
+    F: Files + AllocGlobal,
+{
+    let first = read_source(rt, args.rope.as_str(), first)?;
+    let second = match read_source(rt, args.other.as_str(), second) {
+        Ok(read) => read,
+        Err(SideFault::File(fault)) => return Err(SideFault::File(fault.of_second())),
+        Err(fault) => return Err(fault),
+    };
+    compared(rt.alloc(), &first, &second)
+}
+
+/// Reads a rope file.
+fn read_side<R: Read>(
+    alloc: Global,
+    args: &WordsArgs,
+    form: RopeForm,
+    reader: &mut R,
+) -> Result<Side, AnalysisFault> {
     let RopeRead { rope, wrong } = match read_any_rope(alloc, form, args.ignores_parity, reader) {
         Ok(read) => read,
-        Err(fault) => return Err(SideFault::File(AnalysisFault::Refused(fault))),
+        Err(fault) => return Err(AnalysisFault::Refused(fault)),
     };
     Ok(Side {
         rope: LinedRope {
@@ -160,17 +228,21 @@ where
     })
 }
 
+/// Reads a source.
+fn read_text<R: Read>(alloc: Global, reader: &mut R) -> Result<Vec<u8>, AnalysisFault> {
+    match read_limited(alloc, reader, TEXT_BYTES) {
+        Ok(bytes) => Ok(bytes),
+        Err(ReadError::CannotRead(_)) => Err(AnalysisFault::CannotReadText),
+        Err(ReadError::Memory) => Err(NO_MEMORY),
+    }
+}
+
 /// Assembles the source at a path, with the files that it includes.
-fn read_source<F, R: Read>(rt: &F, path: &str, reader: &mut R) -> Result<Side, SideFault>
+fn read_source<F>(rt: &F, path: &str, bytes: Vec<u8>) -> Result<Side, SideFault>
 where
     F: Files + AllocGlobal,
 {
     let alloc = rt.alloc();
-    let bytes = match read_limited(alloc, reader, TEXT_BYTES) {
-        Ok(bytes) => bytes,
-        Err(ReadError::CannotRead(_)) => return Err(SideFault::File(AnalysisFault::CannotReadText)),
-        Err(ReadError::Memory) => return Err(SideFault::File(NO_MEMORY)),
-    };
     if !has_include(bytes.as_slice()) {
         let mut text = bytes.as_slice();
         let woven = weave_text(alloc, RopeForm::Classic, &mut text)?;

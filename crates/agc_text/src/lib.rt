@@ -10,6 +10,7 @@ mod count;
 mod observed;
 mod patterns;
 mod profile;
+mod slips;
 mod stuck_columns;
 
 pub use bank_changes::push_bank_changes;
@@ -17,3 +18,4 @@ pub use comparison::{SideNames, push_comparison};
 pub use observed::{push_brief, push_shown};
 pub use patterns::{push_damage, push_patterns};
 pub use profile::{ProfileForm, push_profile};
+pub use slips::push_slips;
