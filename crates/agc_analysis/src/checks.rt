@@ -50,16 +50,27 @@ pub fn check_files<R: Read>(
     }
 }
 
-/// Checks a rope file alone and returns the report, followed by what a restorer wants to know.
+/// A rope file, and what `check` prints of it alone.
+#[derive(Drop)]
+pub(crate) struct CheckedRope {
+    pub file: Vec<u8>,
+    /// Whether the places of its words are known.
+    pub is_placed: bool,
+    pub holdings: Report,
+    /// What a restorer wants to know: bad words, readings, sums and patterns of damage.
+    pub findings: String,
+}
+
+/// Checks a rope file alone.
 pub(crate) fn check_rope_file<R: Read>(
     alloc: Global,
     form: RopeForm,
     first_bank: Option<u8>,
     rope: &mut R,
-) -> Result<Report, AnalysisFault> {
+) -> Result<CheckedRope, AnalysisFault> {
     if first_bank.is_some() {
         let file = read_banks(alloc, form, first_bank, rope)?;
-        return checked_rope(alloc, form, true, file.as_slice());
+        return checked_rope(alloc, form, true, file);
     }
     let file = match read_limited(alloc, rope, ROPE_BYTES) {
         Ok(file) => file,
@@ -69,29 +80,54 @@ pub(crate) fn check_rope_file<R: Read>(
         Err(ReadError::Memory) => return Err(AnalysisFault::Refused(LoadFault::Memory)),
     };
     let is_placed = !may_be_modules(file.len());
-    checked_rope(alloc, form, is_placed, file.as_slice())
+    checked_rope(alloc, form, is_placed, file)
 }
 
 fn checked_rope(
     alloc: Global,
     form: RopeForm,
     is_placed: bool,
-    file: &[u8],
-) -> Result<Report, AnalysisFault> {
-    match report_on_rope(alloc, form, is_placed, file) {
+    file: Vec<u8>,
+) -> Result<CheckedRope, AnalysisFault> {
+    match texts_on_rope(alloc, form, is_placed, file) {
+        Ok(checked) => Ok(checked),
+        Err(_) => Err(AnalysisFault::Refused(LoadFault::Memory)),
+    }
+}
+
+fn texts_on_rope(
+    alloc: Global,
+    form: RopeForm,
+    is_placed: bool,
+    file: Vec<u8>,
+) -> Result<CheckedRope, AllocError> {
+    let holdings = check_rope(alloc, form, file.as_slice())?;
+    let mut findings = String::new(alloc);
+    push_damage(alloc, &mut findings, form, is_placed, file.as_slice())?;
+    Ok(CheckedRope {
+        file,
+        is_placed,
+        holdings,
+        findings,
+    })
+}
+
+/// Returns the report on a rope file alone: what it has, and what a restorer wants to know.
+pub(crate) fn report_on_rope(rope: CheckedRope) -> Result<Report, AnalysisFault> {
+    match whole_report(rope) {
         Ok(report) => Ok(report),
         Err(_) => Err(AnalysisFault::Refused(LoadFault::Memory)),
     }
 }
 
-fn report_on_rope(
-    alloc: Global,
-    form: RopeForm,
-    is_placed: bool,
-    file: &[u8],
-) -> Result<Report, AllocError> {
-    let Report { mut text, is_sound } = check_rope(alloc, form, file)?;
-    push_damage(alloc, &mut text, form, is_placed, file)?;
+fn whole_report(rope: CheckedRope) -> Result<Report, AllocError> {
+    let CheckedRope {
+        holdings,
+        findings,
+        ..
+    } = rope;
+    let Report { mut text, is_sound } = holdings;
+    text.push_str(findings.as_str())?;
     Ok(Report { text, is_sound })
 }
 

@@ -8,10 +8,12 @@ ghost use Rattle.agc_analysis.specs.Fault.{IsReported};
 
 use crate::checks::{
     CheckedListing, check_key_file, check_listing_file, check_rope_file, check_with, joined,
+    report_on_rope,
 };
 use crate::fault::AnalysisFault;
 use crate::included::{expanded_source, in_files, report_include};
 use crate::inputs::report_fault;
+use crate::rope_pages::{check_page_path, write_rope_page};
 use crate::streams::Streams;
 use agc_include::{Expanded, has_include};
 use agc_io::{
@@ -41,6 +43,9 @@ where
     R: Files + AllocGlobal,
     ensures ended { EndsWith W.contents E.contents result io.old io.new }
 {
+    if let Err(status) = check_page_path(rt, args, io) {
+        return status;
+    }
     let more = match check_texts(rt, args, io) {
         Ok(more) => more,
         Err(status) => return status,
@@ -94,7 +99,7 @@ fn join_reports<W: Write, E: Write, N: Write, P>(
     }
 }
 
-/// Checks a rope alone, if there is one without a script.
+/// Checks a rope alone, if there is one without a script, and writes its page if one is wanted.
 fn check_rope<R, W: Write, E: Write, N: Write, P>(
     rt: &R,
     args: &CheckArgs,
@@ -102,16 +107,22 @@ fn check_rope<R, W: Write, E: Write, N: Write, P>(
 ) -> Result<Option<Report>, u8>
 where
     R: Files + AllocGlobal,
-    ensures unchanged { OnOk result (io.new ≡ io.old) }
+    ensures out { OnOk result (io.new.out ≡ io.old.out) }
+    ensures err { OnOk result (io.new.err ≡ io.old.err) }
     ensures ended { IfErr result (λ status. EndsWith W.contents E.contents status io.old io.new) }
 {
     let Some(path) = &args.rope else {
         return Ok(None);
     };
-    let mut rope = open_file(rt, path, ROPE_BYTES);
-    match check_rope_file(rt.alloc(), args.form, args.first_bank, &mut rope) {
+    let mut file = open_file(rt, path, ROPE_BYTES);
+    let rope = match check_rope_file(rt.alloc(), args.form, args.first_bank, &mut file) {
+        Ok(rope) => rope,
+        Err(fault) => return Err(report_fault(rt.alloc(), fault, &file, io)),
+    };
+    write_rope_page(rt, args, path.as_str(), &rope, io)?;
+    match report_on_rope(rope) {
         Ok(report) => Ok(Some(report)),
-        Err(fault) => Err(report_fault(rt.alloc(), fault, &rope, io)),
+        Err(fault) => Err(fault.report_to(&mut io.err)),
     }
 }
 

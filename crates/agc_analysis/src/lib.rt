@@ -30,6 +30,7 @@ mod interpretive_list;
 mod new_files;
 mod remarks;
 mod rope_bytes;
+mod rope_pages;
 mod ropes;
 mod samples;
 mod source_faults;

@@ -106,6 +106,19 @@ pub struct CheckArgs {
     pub form: RopeForm,
     /// The bank of the first word of a rope without a script (`--first-bank`), if it is some modules of a rope.
     pub first_bank: Option<u8>,
+    /// The page on a rope without a script (`--report`).
+    pub report: Option<ReportArgs>,
+}
+
+/// The page that `check --report` writes.
+#[derive(Debug, Drop)]
+pub struct ReportArgs {
+    /// The new file for it.
+    pub page: String,
+    /// Another rope that it shows too (`--beside`).
+    pub beside: Option<String>,
+    /// The form of the other rope (`--form-b`).
+    pub other_form: RopeForm,
 }
 
 /// Arguments of `trace`: a run, and which of its lines to print.

@@ -110,7 +110,8 @@ impl<'a> Subcommands<'a> {
             .keys_option()
             .listing_option()
             .form_option()
-            .first_bank_of_rope();
+            .first_bank_of_rope()
+            .report_options();
         self.with(
             "check",
             "Reports what is wrong with a rope and a script, with live keys, or with the text of a rope.",
@@ -505,12 +506,34 @@ impl<'a> ArgList<'a> {
 
     /// Adds `--first-bank` for `check`, which takes it for a rope without a script.
     fn first_bank_of_rope(self) -> ArgList<'a> {
-        let arg = option(self.alloc, "first-bank", "BB", FIRST_BANK).requires_arg("rope");
-        let arg = match arg {
-            Ok(arg) => arg.conflicts_with("script"),
-            Err(error) => Err(error),
-        };
+        let arg = of_rope_alone(option(self.alloc, "first-bank", "BB", FIRST_BANK));
         self.with_tied(arg)
+    }
+
+    /// Adds `--report` of `check`, which takes it for a rope without a script, and the options of the other rope on the page.
+    fn report_options(self) -> ArgList<'a> {
+        let report = of_rope_alone(option(
+            self.alloc,
+            "report",
+            "NEW",
+            "Write a web page to this new file too: the rope as a map, bad words, sums, patterns of damage",
+        ));
+        let beside = option(
+            self.alloc,
+            "beside",
+            "ROPE",
+            "With --report, show this rope on the page too, and the words that differ",
+        )
+        .requires_arg("report");
+        let form = option(
+            self.alloc,
+            "form-b",
+            "FORM",
+            "Layout of the rope of --beside, if it is another",
+        )
+        .value_parser(FORMS.as_slice())
+        .requires_arg("beside");
+        self.with_tied(report).with_tied(beside).with_tied(form)
     }
 
     /// Adds `--all` for `list`, which prints neither names nor a source with it.
@@ -839,6 +862,11 @@ impl<'a> ArgList<'a> {
         let arg = listings_of_runs(self.alloc);
         self.with_tied(arg)
     }
+}
+
+/// Ties an option of `check` to a rope without a script.
+fn of_rope_alone<'a>(arg: Arg<'a>) -> Result<Arg<'a>, AllocError> {
+    arg.requires_arg("rope")?.conflicts_with("script")
 }
 
 /// Returns `--all` of `list`.

@@ -12,7 +12,8 @@ use crate::values::{channel_names_of, channels_of, mistake, orders_of, span_of, 
 use agc_cli::{ArgsFault, form_of, mistake_of, path_of, text_of};
 use agc_load::RunFiles;
 use agc_study_args::{
-    Args, CheckArgs, CompareArgs, FilmArgs, ListArgs, ListStyle, NAME, TraceArgs, WeaveArgs,
+    Args, CheckArgs, CompareArgs, FilmArgs, ListArgs, ListStyle, NAME, ReportArgs, TraceArgs,
+    WeaveArgs,
 };
 use agc_trace::{Notation, Only, Selection, Span};
 use clap::{ArgMatches, Command};
@@ -189,6 +190,19 @@ fn check_args(alloc: Global, given: &ArgMatches<'_>) -> Result<Args, ArgsFault> 
         listing,
         form: form_of(given),
         first_bank: first_bank_of(alloc, given)?,
+        report: report_of(alloc, given)?,
+    }))
+}
+
+/// Parses `--report` and what belongs to it.
+fn report_of(alloc: Global, given: &ArgMatches<'_>) -> Result<Option<ReportArgs>, ArgsFault> {
+    let Some(page) = text_of(alloc, given, "report")? else {
+        return Ok(None);
+    };
+    Ok(Some(ReportArgs {
+        page,
+        beside: text_of(alloc, given, "beside")?,
+        other_form: other_form_of(given),
     }))
 }
 
