@@ -12,6 +12,7 @@ import subprocess
 import banks
 import judge
 import merging
+import pages
 import patterns
 import sums
 
@@ -360,7 +361,7 @@ def main():
     draw = random.Random(int(os.environ.get("RESTORE_SEED", "69")))
     for group in (single_words, two_that_fit, sums_unknown, stuck_columns, changed_bits, layouts, modules,
                   moved_modules, repeated_code, parity_bits, sound_ropes, *merging.GROUPS, *sums.GROUPS, *patterns.GROUPS, *banks.GROUPS,
-                  merging.five_commands):
+                  merging.five_commands, *pages.GROUPS):
         judge.attempt(group, draw)
     judge.finish()
 
