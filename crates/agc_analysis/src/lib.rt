@@ -48,7 +48,7 @@ pub use cmd_compare::write_outcome;
 pub use compares::{DiffOutcome, compare_files};
 pub use counts::{Profiled, profile_files};
 pub use fault::{AnalysisFault, FAULTY};
-pub use films::{FilmPage, film_file_pairs, film_files};
+pub use films::{FilmPage, film_file_pairs, film_files, record_run};
 pub use remarks::RunStop;
 pub use ropes::{Woven, misnamed_line, text_of_rope, weave_text};
 pub use samples::{SampleTable, sample_files};

@@ -1,6 +1,6 @@
 -- The printed changes of the tables, applied one after another, give the tables.
 use Rattle.std.proofs.Common.{◌≡◌, ℕ, ◌<◌, ◌≤◌, ◌^◌, Bool, true, false, List, [], ◌∷◌, ◌++◌, Option, Some, None, refl, ap, sym, ◌∙◌}
-use Rattle.std.specs.Prelude.{◌||◌, not, if◌then◌else◌, filter, flat_map, fold, map, nat_le, unwrap_or}
+use Rattle.std.specs.Prelude.{if◌then◌else◌, filter, flat_map, fold, map, nat_le, unwrap_or}
 use Rattle.std.specs.List.{last_or}
 use Rattle.std.specs.Str.{bytes_eq}
 use Rattle.agc_machine.specs.Laws.{after}
@@ -10,8 +10,7 @@ use Rattle.agc_symbols.specs.Symbols.{Symbol}
 use Rattle.agc_timeline.specs.ChangeLaws.{shown_at, tables_at, up_to}
 use Rattle.agc_timeline.specs.Changes.{Sight, changes, changes_in, is_in, shown_after, sight_of, sights_in}
 use Rattle.agc_timeline.specs.Lines.{change_text, changed_lines, changes_text, jobs_text, lines_in}
-use Rattle.agc_timeline.specs.Packed.{lines_written, with_line}
-use Rattle.agc_timeline.specs.Printed.{applied, applied_after, entry_name, jobs_printed, lines_up_to, printed, printed_text}
+use Rattle.agc_timeline.specs.Printed.{applied, applied_after, entry_name, jobs_printed, lines_up_to, printed, printed_text, with_line}
 use Rattle.agc_timeline.specs.States.{states_of}
 use Rattle.agc_trace.specs.declared.span.Span.{Span}
 use Rattle.agc_timeline.proofs.AtCycle.{changes_are_the_tables}
@@ -27,16 +26,6 @@ text_of names shown (sight ∷ sights) = ap (λ (text : List ℕ). change_text n
 pub text_is_printed : (names : Option (List Symbol)) (span : Span) (spec : WatchSpec) (s : State) → jobs_text names span spec s ≡ flat_map (printed_text names) (jobs_printed span spec s)
 unfolding jobs_text
 text_is_printed names span spec s = text_of names [] (changes_in span spec s)
-
-same_choice : (b : Bool) (line : List ℕ) (xs ys : List (List ℕ)) → xs ≡ ys → (if b then xs else line ∷ xs) ≡ (if false || not b then line ∷ ys else ys)
-same_choice true line xs ys e = e
-same_choice false line xs ys e = ap (λ (zs : List (List ℕ)). line ∷ zs) e
-
-same_lines : (olds news : List (List ℕ)) → changed_lines olds news ≡ lines_written false olds news
-unfolding changed_lines lines_written
-same_lines olds [] = refl
-same_lines [] (line ∷ news) = refl
-same_lines (old ∷ olds) (line ∷ news) = same_choice (bytes_eq old line) line (changed_lines olds news) (lines_written false olds news) (same_lines olds news)
 
 all_lines : (lines : List (List ℕ)) → changed_lines [] lines ≡ lines
 unfolding changed_lines
@@ -58,10 +47,8 @@ module _ (names : List (List ℕ)) (apart : are_apart names ≡ true) where
   AllHave [] = Unit {0}
   AllHave (sight ∷ sights) = Has sight.text × AllHave sights
 
-  laid_over : (old new : List ℕ) → Has old → Has new → fold (with_line entry_name) (lines_in old) (changed_lines (lines_in old) (lines_in new)) ≡ lines_in new
-  laid_over old new e f =
-      ap (fold (with_line entry_name) (lines_in old)) (same_lines (lines_in old) (lines_in new))
-      ∙ laid entry_name false (lines_in old) (lines_in new) (e ∙ sym f) (ap are_apart f ∙ apart)
+  laid_over : (old new : List ℕ) → Has old → Has new → fold with_line (lines_in old) (changed_lines (lines_in old) (lines_in new)) ≡ lines_in new
+  laid_over old new e f = laid (lines_in old) (lines_in new) (e ∙ sym f) (ap are_apart f ∙ apart)
 
   go_on : (shown : List ℕ) (sights : List Sight) → Has shown → AllHave sights → applied_after (lines_in shown) (printed shown sights) ≡ reported sights
   unfolding applied_after printed

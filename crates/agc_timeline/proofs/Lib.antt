@@ -17,9 +17,6 @@ pub mod Cuts
 pub mod PanelAt
 pub mod ShownPanel
 pub mod Laid
-pub mod Reported
-pub mod Unpacked
-pub mod Added
 pub mod Differ
 pub mod Alone
 pub mod Together

@@ -1,5 +1,5 @@
 -- A recorder takes the writes of a run, one after another.
-use Rattle.std.proofs.Common.{◌≡◌, ℕ, Bool, true, false, List, [], ◌∷◌, ◌++◌, ap, sym, ◌∙◌, append_assoc, append-nil}
+use Rattle.std.proofs.Common.{◌≡◌, ℕ, Bool, true, false, Option, Some, None, List, [], ◌∷◌, ◌++◌, ap, sym, ◌∙◌, append_assoc, append-nil}
 use Rattle.std.specs.Prelude.{if◌then◌else◌}
 use Rattle.std.specs.Str.{bytes_eq}
 use Rattle.agc_word.specs.declared.channel_write.ChannelWrite.{ChannelWrite}
@@ -31,21 +31,21 @@ frames_next before taken write =
     ∙ ap (λ (fs : List Frame). frames_after before taken ++ fs) (append-nil (frame_of (before ++ taken) write))
 
 -- the frame of a write, or of an opening, by what two panels show
-abbrev one_or_none : Bool → ℕ → Face → List Frame
-one_or_none alike cycle face = if alike then [] else record { cycle = cycle; panel = face } ∷ []
+abbrev one_or_none : Bool → ℕ → Option ChannelWrite → Face → List Frame
+one_or_none alike cycle write face = if alike then [] else record { cycle = cycle; written = write; panel = face } ∷ []
 
-pub none_where_alike : (cycle : ℕ) (a b c d : Face) → a ≡ c → b ≡ d → true ≡ bytes_eq (panel_text a) (panel_text b) →
-    one_or_none (bytes_eq (panel_text c) (panel_text d)) cycle d ≡ []
-none_where_alike cycle a b c d p q e =
-    ap (λ (alike : Bool). one_or_none alike cycle d)
+pub none_where_alike : (cycle : ℕ) (write : Option ChannelWrite) (a b c d : Face) → a ≡ c → b ≡ d → true ≡ bytes_eq (panel_text a) (panel_text b) →
+    one_or_none (bytes_eq (panel_text c) (panel_text d)) cycle write d ≡ []
+none_where_alike cycle write a b c d p q e =
+    ap (λ (alike : Bool). one_or_none alike cycle write d)
     (sym (e ∙ ap (λ (x : Face). bytes_eq (panel_text x) (panel_text b)) p ∙ ap (λ (x : Face). bytes_eq (panel_text c) (panel_text x)) q))
 
-pub one_where_not : (cycle : ℕ) (a b c d : Face) → a ≡ c → b ≡ d → false ≡ bytes_eq (panel_text a) (panel_text b) →
-    one_or_none (bytes_eq (panel_text c) (panel_text d)) cycle d ≡ record { cycle = cycle; panel = b } ∷ []
-one_where_not cycle a b c d p q e =
-    ap (λ (alike : Bool). one_or_none alike cycle d)
+pub one_where_not : (cycle : ℕ) (write : Option ChannelWrite) (a b c d : Face) → a ≡ c → b ≡ d → false ≡ bytes_eq (panel_text a) (panel_text b) →
+    one_or_none (bytes_eq (panel_text c) (panel_text d)) cycle write d ≡ record { cycle = cycle; written = write; panel = b } ∷ []
+one_where_not cycle write a b c d p q e =
+    ap (λ (alike : Bool). one_or_none alike cycle write d)
     (sym (e ∙ ap (λ (x : Face). bytes_eq (panel_text x) (panel_text b)) p ∙ ap (λ (x : Face). bytes_eq (panel_text c) (panel_text x)) q))
-    ∙ ap (λ (x : Face). record { cycle = cycle; panel = x } ∷ []) (sym q)
+    ∙ ap (λ (x : Face). record { cycle = cycle; written = write; panel = x } ∷ []) (sym q)
 
 -- a film begins
 pub taken_none : (cycle : ℕ) (before : List ChannelWrite) (r : Recorder) → r.panel ≡ panel_of before → r.frames.items ≡ opening_of cycle before →
@@ -61,14 +61,14 @@ pub opens_blank : (cycle : ℕ) (before : List ChannelWrite) (r : Recorder) (bla
     r.frames.items ≡ [] → true ≡ bytes_eq (panel_text blank) (panel_text r.panel) → HasTaken cycle before [] r
 unfolding opening_of shown_after
 opens_blank cycle before r blank z p f e =
-    taken_none cycle before r p (f ∙ sym (none_where_alike cycle blank r.panel (panel_of []) (panel_of before) z p e))
+    taken_none cycle before r p (f ∙ sym (none_where_alike cycle None blank r.panel (panel_of []) (panel_of before) z p e))
 
 pub opens_with : (cycle : ℕ) (before : List ChannelWrite) (r : Recorder) (blank : Face) → blank ≡ panel_of [] → r.panel ≡ panel_of before →
-    r.frames.items ≡ record { cycle = cycle; panel = r.panel } ∷ [] → false ≡ bytes_eq (panel_text blank) (panel_text r.panel) →
+    r.frames.items ≡ record { cycle = cycle; written = None; panel = r.panel } ∷ [] → false ≡ bytes_eq (panel_text blank) (panel_text r.panel) →
     HasTaken cycle before [] r
 unfolding opening_of shown_after
 opens_with cycle before r blank z p f e =
-    taken_none cycle before r p (f ∙ sym (one_where_not cycle blank r.panel (panel_of []) (panel_of before) z p e))
+    taken_none cycle before r p (f ∙ sym (one_where_not cycle None blank r.panel (panel_of []) (panel_of before) z p e))
 
 -- one more write is taken
 more_writes : (before taken : List ChannelWrite) (write : ChannelWrite) → panel_of ((before ++ taken) ++ write ∷ []) ≡ panel_of (before ++ (taken ++ write ∷ []))
@@ -90,18 +90,18 @@ taken_alike from before taken write r s p f e h =
       panel = p ∙ more_writes before taken write;
       frames =
           f ∙ h.frames ∙ sym (append-nil (opening_of from before ++ frames_after before taken))
-          ∙ more_frames from before taken write [] (none_where_alike write.cycle r.panel s.panel (panel_of (before ++ taken)) (panel_of ((before ++ taken) ++ write ∷ [])) h.panel p e);
+          ∙ more_frames from before taken write [] (none_where_alike write.cycle (Some write) r.panel s.panel (panel_of (before ++ taken)) (panel_of ((before ++ taken) ++ write ∷ [])) h.panel p e);
     }
 
 pub taken_frame : (from : ℕ) (before taken : List ChannelWrite) (write : ChannelWrite) (r s : Recorder) →
-    s.panel ≡ panel_of ((before ++ taken) ++ write ∷ []) → s.frames.items ≡ r.frames.items ++ record { cycle = write.cycle; panel = s.panel } ∷ [] →
+    s.panel ≡ panel_of ((before ++ taken) ++ write ∷ []) → s.frames.items ≡ r.frames.items ++ record { cycle = write.cycle; written = Some write; panel = s.panel } ∷ [] →
     false ≡ bytes_eq (panel_text r.panel) (panel_text s.panel) → HasTaken from before taken r → HasTaken from before (taken ++ write ∷ []) s
 unfolding frame_of shown_after
 taken_frame from before taken write r s p f e h =
-    let one : List Frame = record { cycle = write.cycle; panel = s.panel } ∷ [] in
+    let one : List Frame = record { cycle = write.cycle; written = Some write; panel = s.panel } ∷ [] in
     record {
       panel = p ∙ more_writes before taken write;
       frames =
           f ∙ ap (λ (fs : List Frame). fs ++ one) h.frames
-          ∙ more_frames from before taken write one (one_where_not write.cycle r.panel s.panel (panel_of (before ++ taken)) (panel_of ((before ++ taken) ++ write ∷ [])) h.panel p e);
+          ∙ more_frames from before taken write one (one_where_not write.cycle (Some write) r.panel s.panel (panel_of (before ++ taken)) (panel_of ((before ++ taken) ++ write ∷ [])) h.panel p e);
     }

@@ -1,5 +1,5 @@
 -- What a film shows at a cycle is the panel of the writes up to then.
-use Rattle.std.proofs.Common.{◌≡◌, ℕ, ◌+◌, ◌≤◌, Bool, true, false, List, [], ◌∷◌, ◌++◌, refl, ap, sym, ◌∙◌, arith, append_assoc, append-nil, inl, inr}
+use Rattle.std.proofs.Common.{◌≡◌, ℕ, ◌+◌, ◌≤◌, Bool, true, false, Option, Some, None, List, [], ◌∷◌, ◌++◌, refl, ap, sym, ◌∙◌, arith, append_assoc, append-nil, inl, inr}
 use Rattle.std.specs.Prelude.{cond, filter, nat_le}
 use Rattle.std.specs.Str.{bytes_eq}
 use Rattle.std.proofs.lemmas.Bool.Decides.{leb_tells}
@@ -21,10 +21,10 @@ use Rattle.agc_timeline.proofs.Spanned.{up_to_between}
 use Rattle.agc_timeline.proofs.Spans.{between_rises, none_up_to}
 use Rattle.agc_timeline.proofs.PanelAt.{panel_at, panel_before, panel_after_more, panel_past}
 
-one_past : (a b : Face) (write_cycle cycle : ℕ) (rest : List Frame) (alike : Bool) → bytes_eq (panel_text a) (panel_text b) ≡ alike → write_cycle ≤ cycle →
-    panel_text (panel_at a (one_or_none alike write_cycle b ++ rest) cycle) ≡ panel_text (panel_at b rest cycle)
-one_past a b write_cycle cycle rest true e l = let d = bytes_eq-Decides (panel_text a) (panel_text b) in panel_after_more a b rest cycle (d.0 e)
-one_past a b write_cycle cycle rest false e l = ap panel_text (panel_past a (record { cycle = write_cycle; panel = b }) rest cycle l)
+one_past : (a b : Face) (write_cycle : ℕ) (write : Option ChannelWrite) (cycle : ℕ) (rest : List Frame) (alike : Bool) → bytes_eq (panel_text a) (panel_text b) ≡ alike → write_cycle ≤ cycle →
+    panel_text (panel_at a (one_or_none alike write_cycle write b ++ rest) cycle) ≡ panel_text (panel_at b rest cycle)
+one_past a b write_cycle write cycle rest true e l = let d = bytes_eq-Decides (panel_text a) (panel_text b) in panel_after_more a b rest cycle (d.0 e)
+one_past a b write_cycle write cycle rest false e l = ap panel_text (panel_past a (record { cycle = write_cycle; written = write; panel = b }) rest cycle l)
 
 shown_after_more : (from : ℕ) (before writes : List ChannelWrite) (cycle : ℕ) → AreRising from writes →
     panel_text (panel_at (panel_of before) (frames_after before writes) cycle)
@@ -34,7 +34,7 @@ shown_after_more from before [] cycle r = ap (λ (all : List ChannelWrite). pane
 shown_after_more from before (write ∷ writes) cycle r =
     elim (leb_tells write.cycle cycle) [
       | inl past ↦
-          one_past (panel_of before) (panel_of (before ++ write ∷ [])) write.cycle cycle (frames_after (before ++ write ∷ []) writes)
+          one_past (panel_of before) (panel_of (before ++ write ∷ [])) write.cycle (Some write) cycle (frames_after (before ++ write ∷ []) writes)
           (bytes_eq (panel_text (panel_of before)) (panel_text (panel_of (before ++ write ∷ [])))) refl past.1
           ∙ shown_after_more (write.cycle + 1) (before ++ write ∷ []) writes cycle r.2
           ∙ ap (λ (all : List ChannelWrite). panel_text (panel_of all)) (append_assoc before (write ∷ []) (filter (λ one. nat_le one.cycle cycle) writes))
@@ -54,7 +54,7 @@ shown_in_part : (from : ℕ) (before writes : List ChannelWrite) (cycle : ℕ) �
     shown_at (opening_of from before ++ frames_after before writes) cycle ≡ shown_after (before ++ up_to cycle writes)
 unfolding opening_of shown_at shown_after
 shown_in_part from before writes cycle l r =
-    one_past (panel_of []) (panel_of before) from cycle (frames_after before writes)
+    one_past (panel_of []) (panel_of before) from None cycle (frames_after before writes)
     (bytes_eq (panel_text (panel_of [])) (panel_text (panel_of before))) refl l
     ∙ shown_after_more (from + 1) before writes cycle r
 

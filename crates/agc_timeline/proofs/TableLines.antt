@@ -25,8 +25,7 @@ use Rattle.agc_panel.specs.declared.core_set.Job.{Job}
 use Rattle.agc_panel.specs.declared.tables.Task.{Task}
 use Rattle.agc_panel.specs.declared.watch_spec.WatchSpec.{WatchSpec}
 use Rattle.agc_timeline.specs.Lines.{lines_in, onto_first}
-use Rattle.agc_timeline.specs.Packed.{name_of}
-use Rattle.agc_timeline.specs.Printed.{after_name, entry_name}
+use Rattle.agc_timeline.specs.Printed.{after_name, entry_name, name_of}
 use Rattle.agc_timeline.proofs.Laid.{are_apart, is_apart}
 
 -- a byte that is no line feed, and one that is no space

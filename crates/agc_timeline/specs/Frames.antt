@@ -1,7 +1,7 @@
 -- The frames of a part of a run: the panel at its first cycle, and at each write after it that changes what
 -- the panel shows.
 use Rattle.std.specs.Prelude.{ℕ, ◌&&◌, max, nat_le, nat_lt, if◌then◌else◌, List, [], ◌∷◌, ◌++◌, filter, map}
-use Rattle.std.specs.Prelude.{None, unwrap_or}
+use Rattle.std.specs.Prelude.{None, Some, unwrap_or}
 use Rattle.std.specs.List.{last_or}
 use Rattle.std.specs.Str.{bytes_eq}
 use Rattle.agc_word.specs.declared.channel_write.ChannelWrite.{ChannelWrite}
@@ -14,13 +14,12 @@ use Rattle.agc_trace.specs.declared.span.Span.{Span}
 unfoldable pub shown_after : List ChannelWrite → List ℕ
 shown_after writes = panel_text (panel_of writes)
 
--- The frame of a write after others, if it changes what the panel shows: the write's cycle, and the panel of all the
--- writes.
+-- The frame of a write after others, if it changes what the panel shows: the write, and the panel of all the writes.
 unfoldable pub frame_of : List ChannelWrite → ChannelWrite → List Frame
 frame_of before write =
     let writes = before ++ write ∷ [] in
     if bytes_eq (shown_after before) (shown_after writes) then []
-    else record { cycle = write.cycle; panel = panel_of writes } ∷ []
+    else record { cycle = write.cycle; written = Some write; panel = panel_of writes } ∷ []
 
 -- the frames of writes after others
 unfoldable pub frames_after : List ChannelWrite → List ChannelWrite → List Frame
@@ -33,7 +32,7 @@ frames_after before (write ∷ writes) =
 unfoldable pub opening_of : ℕ → List ChannelWrite → List Frame
 opening_of from before =
     if bytes_eq (shown_after []) (shown_after before) then []
-    else record { cycle = from; panel = panel_of before } ∷ []
+    else record { cycle = from; written = None; panel = panel_of before } ∷ []
 
 -- the writes up to a cycle
 abbrev pub up_to : ℕ → List ChannelWrite → List ChannelWrite

@@ -1,6 +1,5 @@
 -- The key events of a script.
-use Rattle.std.specs.Prelude.{ℕ, Bool, true, false, List, [], codes, filter}
-use Rattle.agc_script.specs.Key.{name_of}
+use Rattle.std.specs.Prelude.{Bool, true, false, List, filter}
 use Rattle.agc_script.specs.declared.event.Event.{Event}
 use Rattle.agc_script.specs.declared.event.What.{What}
 use Rattle.agc_script.specs.declared.event.What.TheVariants as what
@@ -17,13 +16,3 @@ is_on_keyboard (what.Poke bank offset value) = false
 -- the key events among some events, in order
 unfoldable pub presses_of : List Event → List Event
 presses_of events = filter (λ event. is_on_keyboard event.what) events
-
--- the name of a key event
-abbrev pub press_name : What → List ℕ
-press_name (what.Key key) = name_of key
-press_name (what.Pro true) = codes "PRO"
-press_name (what.Pro false) = codes "PRO up"
-press_name (what.Input channel value) = []
-press_name (what.Pulse counter kind) = []
-press_name (what.Raise number) = []
-press_name (what.Poke bank offset value) = []

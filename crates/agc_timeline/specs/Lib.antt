@@ -4,15 +4,11 @@ pub mod LinePlace
 pub mod Lines
 pub mod ChangeLaws
 pub mod Film
-pub mod Tables
 pub mod Frames
 pub mod Run
 pub mod KeyEvents
 pub mod Recording
 pub mod Watched
-pub mod Packed
 pub mod Printed
 pub mod Divergence
-pub mod Title
-pub mod Page
 pub mod Laws

@@ -1,6 +1,6 @@
 //! Finds the key events of a script.
 ghost use Rattle.std.specs.Prelude.{◌≡◌, IfOk};
-ghost use Rattle.agc_timeline.specs.KeyEvents.{is_on_keyboard, press_name, presses_of};
+ghost use Rattle.agc_timeline.specs.KeyEvents.{is_on_keyboard, presses_of};
 
 use agc_script::{Event, What};
 use std::alloc::{AllocError, Global};
@@ -23,17 +23,4 @@ fn is_on_keyboard(what: What) -> bool
     ensures { result ≡ is_on_keyboard what }
 {
     matches!(what, What::Key(_) | What::Pro(_))
-}
-
-/// Returns the name of a key event on the page: the key's name as scripts write it, `PRO` or `PRO up`. It is empty for
-/// any other event.
-pub(crate) fn press_name(what: What) -> &'static str
-    ensures { result.now ≡ press_name what }
-{
-    match what {
-        What::Key(key) => key.name(),
-        What::Pro(true) => "PRO",
-        What::Pro(false) => "PRO up",
-        What::Input { .. } | What::Pulse { .. } | What::Raise(_) | What::Poke { .. } => "",
-    }
 }

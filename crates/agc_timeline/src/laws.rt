@@ -1,12 +1,10 @@
 //! Laws of films, each the contract of a function that does nothing. The code is proved equal to the definitions that
 //! these laws are about.
-ghost use Rattle.std.specs.Prelude.{◌≡◌, ◌≤◌, ℕ, ◌*◌, List, [], drop};
+ghost use Rattle.std.specs.Prelude.{◌≡◌, ◌≤◌, ℕ, []};
 ghost use Rattle.agc_machine.specs.State.{State};
 ghost use Rattle.agc_timeline.specs.Frames.{shown_after, shown_at};
 ghost use Rattle.agc_timeline.specs.Laws.{AreCuts, frames_of_run, writes_up_to};
-ghost use Rattle.agc_timeline.specs.Packed.{packed, reported, text_at, unpacked};
 ghost use Rattle.agc_timeline.specs.Divergence.{PartAt, first_difference};
-ghost use Rattle.agc_timeline.specs.declared.frame.Frame.{Frame};
 ghost use Rattle.agc_trace.specs.declared.span.Span.{Span};
 
 /// At each cycle of a part, its film shows what the panel shows after the writes of the whole run up to that cycle.
@@ -29,21 +27,4 @@ pub fn each_frame_is_a_change()
 pub fn films_part_at_the_first_difference()
     ensures { (s t : State) (part : Span) → PartAt (frames_of_run part s) (frames_of_run part t)
         (first_difference (frames_of_run part s) (frames_of_run part t)) }
-{}
-
-/// Unpacking the written frames gives the frames again, from the first keyframe or from any other one, whatever the
-/// panel was before it.
-#[tactic(auto, using(crate::proofs::Unpacked::unpacking_gives))]
-pub fn unpacking_gives_the_frames()
-    ensures { (frames : List Frame) (k : ℕ)
-        → unpacked (drop (1024 * k) (packed frames)) ≡ reported (drop (1024 * k) frames) }
-{}
-
-/// The written film of a part, unpacked, shows at each cycle of the part what the panel shows after the writes of the
-/// whole run up to that cycle.
-#[tactic(auto, using(crate::proofs::Unpacked::page_is_the_panel))]
-pub fn a_page_shows_the_panel()
-    ensures { (s : State) (part : Span) (cycle : ℕ) → part.from ≤ cycle → cycle ≤ part.to
-        → text_at (unpacked (packed (frames_of_run part s))) cycle
-        ≡ shown_after (writes_up_to cycle s) }
 {}

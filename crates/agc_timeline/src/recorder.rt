@@ -26,7 +26,11 @@ impl Recorder {
     {
         let mut frames = Vec::new(alloc);
         if !Panel::new().shows_same(&panel) {
-            frames.push(Frame { cycle, panel })?;
+            frames.push(Frame {
+                cycle,
+                written: None,
+                panel,
+            })?;
         }
         Ok(Recorder { panel, frames })
     }
@@ -42,6 +46,7 @@ impl Recorder {
         }
         self.frames.push(Frame {
             cycle: write.cycle,
+            written: Some(*write),
             panel: self.panel,
         })?;
         Ok(())

@@ -10,12 +10,12 @@ use std::marker::Model;
 
 /// The tables read last, if any, and their text. Contracts see the text, which is empty before the first tables.
 #[derive(Debug, Drop)]
-pub(crate) struct Shown {
+pub struct LastTables {
     tables: Option<Tables>,
     text: String,
 }
 
-impl Model for Shown {
+impl Model for LastTables {
     ghost use Rattle.std.specs.Prelude.{◌≡◌, ℕ, List, IfSome, string_bytes};
     ghost use Rattle.agc_panel.specs.TablesText.{tables_text};
 
@@ -26,23 +26,23 @@ impl Model for Shown {
     ghost invariant = { λ shown. IfSome shown.tables (λ tables. string_bytes shown.text ≡ tables_text tables) };
 }
 
-impl Shown {
+impl LastTables {
     ghost use Rattle.std.specs.Prelude.{◌≡◌, [], IfOk, IsTrue, OnOk, string_bytes};
     ghost use Rattle.agc_panel.specs.TablesText.{tables_text};
     ghost use Rattle.agc_timeline.specs.Lines.{lines_at, lines_in};
 
     /// Creates the state before any tables were read.
-    pub(crate) fn nothing(alloc: Global) -> Shown
+    pub fn nothing(alloc: Global) -> LastTables
         ensures { result ≡ [] }
     {
-        Shown {
+        LastTables {
             tables: None,
             text: String::new(alloc),
         }
     }
 
     /// Returns whether the tables are those read last.
-    pub(crate) fn is_of(&self, tables: &Tables) -> bool
+    pub fn is_of(&self, tables: &Tables) -> bool
         ensures { IsTrue result → self.now ≡ tables_text tables.now }
     {
         match &self.tables {
@@ -52,7 +52,7 @@ impl Shown {
     }
 
     /// Takes the tables at a cycle, and returns their changed lines, with these names. Fails if memory runs out.
-    pub(crate) fn take(
+    pub fn take(
         &mut self,
         alloc: Global,
         names: &Option<SymbolTable>,
@@ -65,7 +65,7 @@ impl Shown {
     {
         let text = tables.text(alloc)?;
         let reported = changed_lines(alloc, names, cycle, self.text.as_str(), text.as_str())?;
-        *self = Shown {
+        *self = LastTables {
             tables: Some(tables),
             text,
         };

@@ -1,6 +1,6 @@
 //! Records the tables over a part of a run: those at its first cycle, and the lines that change after that. The
 //! caller runs the machine and passes each state.
-use crate::shown::Shown;
+use crate::shown::LastTables;
 use agc_machine::Machine;
 use agc_panel::{CheckedSpec, Tables};
 use agc_trace::Span;
@@ -49,7 +49,7 @@ impl InitialTables {
 /// The tables from the first cycle of a part on: their lines at that cycle, and those that changed after it.
 #[derive(Debug, Drop)]
 pub struct TablesFilm {
-    shown: Shown,
+    shown: LastTables,
     text: String,
 }
 
@@ -79,7 +79,7 @@ impl TablesFilm {
           text = change_text None [] (record { cycle = cycle; text = opening });
         }) }
     {
-        let mut shown = Shown::nothing(alloc);
+        let mut shown = LastTables::nothing(alloc);
         let text = match opening.tables {
             Some(tables) => shown.take(alloc, &None, cycle, tables)?,
             None => String::new(alloc),

@@ -8,7 +8,7 @@ ghost use Rattle.agc_timeline.specs.Changes.{shown_after, sight_of, sights_in};
 ghost use Rattle.agc_timeline.specs.Lines.{change_text, jobs_text, reported_of};
 ghost use Rattle.agc_timeline.specs.States.{states_of};
 
-use crate::shown::Shown;
+use crate::shown::LastTables;
 use agc_io::{Progress, report_at, write_in_full};
 use agc_machine::{Machine, Stepped};
 use agc_panel::{CheckedSpec, Tables};
@@ -39,7 +39,7 @@ pub fn write_changes<W: Write, P: Progress>(
 }
 
 /// Runs a machine to the first cycle of a span, or to its stop if that comes first.
-pub(crate) fn go_to_first<P: Progress>(machine: &mut Machine, span: Span, progress: &mut P)
+pub fn go_to_first<P: Progress>(machine: &mut Machine, span: Span, progress: &mut P)
     ensures { (spec : WatchSpec) → sights_in span spec (states_of machine.new)
         ≡ sights_in span spec (states_of machine.old) }
 {
@@ -69,7 +69,7 @@ fn write_in_span<W: Write, P: Progress>(
         (jobs_text names.now span spec.now machine.old)) }
 {
     let mut mark = 0;
-    let mut shown = Shown::nothing(alloc);
+    let mut shown = LastTables::nothing(alloc);
     while machine.cycle() <= span.to {
         write_state(alloc, names, machine, span, spec, &mut shown, out)?;
         if machine.stopped().is_some() {
@@ -88,7 +88,7 @@ fn write_state<W: Write>(
     machine: &Machine,
     span: Span,
     spec: &CheckedSpec,
-    shown: &mut Shown,
+    shown: &mut LastTables,
     out: &mut W,
 ) -> Result<(), TraceFault>
     ensures lines { OnOk result (Appends (W.contents out.old) (W.contents out.new)
@@ -113,7 +113,7 @@ fn write_sight<W: Write>(
     names: &Option<SymbolTable>,
     machine: &Machine,
     spec: &CheckedSpec,
-    shown: &mut Shown,
+    shown: &mut LastTables,
     out: &mut W,
 ) -> Result<(), TraceFault>
     ensures lines { OnOk result (Appends (W.contents out.old) (W.contents out.new)

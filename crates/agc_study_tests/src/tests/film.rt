@@ -4,9 +4,10 @@ use super::{has_lines, machine_of, owned, same};
 use agc_io::NoProgress;
 use agc_load::RunFiles;
 use agc_machine::Stop;
+use agc_page::{push_film, push_film_pair};
 use agc_script::{Event, Key, What};
 use agc_test_support::RecordingProgress;
-use agc_timeline::{Recording, film, first_difference, push_film, push_film_pair};
+use agc_timeline::{Recording, film, first_difference};
 use agc_trace::Span;
 use std::process::Abort;
 
@@ -113,18 +114,8 @@ fn a_frame_for_each_change(rt: HostRuntime) {
             "script none",
             "limit 20",
             "from 0",
-            "frame 3",
-            "PROG 12",
-            "VERB __",
-            "NOUN __",
-            "R1 ______",
-            "R2 ______",
-            "R3 ______",
-            "FLASH off",
-            "LAMPS none",
-            "frame 9",
-            "FLASH on",
-            "LAMPS TEMP, KEY REL, OPR ERR, ISS",
+            "3 010 54171",
+            "9 011 54171",
             "stop 20 Limit",
             "</script>",
         ],
@@ -146,18 +137,8 @@ fn a_part_of_a_run(rt: HostRuntime) {
             "script keys",
             "limit 20",
             "from 5",
-            "frame 5",
-            "PROG 12",
-            "VERB __",
-            "NOUN __",
-            "R1 ______",
-            "R2 ______",
-            "R3 ______",
-            "FLASH off",
-            "LAMPS none",
-            "frame 9",
-            "FLASH on",
-            "LAMPS TEMP, KEY REL, OPR ERR, ISS",
+            "5 010 54171",
+            "9 011 54171",
             "key 1 PRO",
             "key 7 PRO up",
             "to 12",

@@ -16,40 +16,24 @@ function readKey(cycle, name, before) {
   return { cycle, name, held: name.startsWith('PRO') ? name === 'PRO' : Boolean(before && before.held) };
 }
 
-// Takes the frames of a block: the cycle of each, and where its lines stand. These are looked at when they are shown.
-function readFrames(run, block) {
-  run.blocks.push(block);
-  for (let at = block.indexOf(FRAME); at >= 0; at = block.indexOf(FRAME, at)) {
-    const number = at + FRAME.length;
-    at = block.indexOf(LINE, number);
-    if (at < 0) at = block.length;
-    run.cycles.push(Number(block.slice(number, at)));
-    run.places.push((run.blocks.length - 1) * BLOCK_SIZE + at + 1);
-  }
+// takes a write of the panel: its cycle, channel and word
+function readWrite(run, line) {
+  const [cycle, channel, word] = line.split(' ');
+  if (run.cycles.length % KEPT_EVERY === 0) run.kept.push([...run.shown]);
+  run.cycles.push(Number(cycle));
+  run.words.push(wordOf(parseInt(channel, 8), parseInt(word, 8)));
+  putWord(run.shown, run.words.at(-1));
 }
 
-// Lays the lines of a frame over those of its names. Returns where they end.
-function layLines(run, frame, lines) {
-  const block = run.blocks[Math.floor(run.places[frame] / BLOCK_SIZE)];
-  let from = run.places[frame] % BLOCK_SIZE;
-  for (;;) {
-    const end = block.indexOf(LINE, from);
-    const line = block.slice(from, end);
-    const name = line.slice(0, line.indexOf(' '));
-    if (end < 0 || !lines.has(name)) return from;
-    lines.set(name, line);
-    from = end + 1;
-  }
+// the panel after a write: the words that were kept before it, with the writes up to it; before the first write it is blank
+function panelOf(run, place) {
+  const first = place - (place % KEPT_EVERY);
+  const words = place < 0 ? new Array(ROWS).fill(0) : [...run.kept[first / KEPT_EVERY]];
+  for (let one = Math.max(first, 0); one <= place; one += 1) putWord(words, run.words[one]);
+  return textOf(words);
 }
 
-// the panel of a frame: its keyframe with the lines that changed up to it
-function panelOf(run, frame) {
-  const lines = new Map(BLANK.split(LINE).map((line, i) => [NAMES[i], line]).filter(([name]) => name));
-  for (let one = frame - (frame % KEYFRAME_EVERY); one >= 0 && one <= frame; one += 1) layLines(run, one, lines);
-  return [...lines.values(), ''].join(LINE);
-}
-
-// takes a line that belongs to no frame
+// takes a line that is no write
 function readLine(run, line) {
   const [word, number, ...rest] = line.split(' ');
   if (word === 'key') {
@@ -68,17 +52,11 @@ function readLine(run, line) {
   }
 }
 
-// a run of the page: its files and its limit, its frames, its keys and its end; before the first frame the panel is blank
+// a run of the page: its files and its limit, its writes, its keys and its end
 function readRun(id) {
-  const run = { id, blocks: [], cycles: [], places: [], keys: [], keyCycles: [], from: 0, stop: 0, reason: '', ended: false };
+  const run = { id, cycles: [], words: [], kept: [], shown: new Array(ROWS).fill(0), keys: [], keyCycles: [], from: 0, stop: 0, reason: '', ended: false };
   for (const part of document.querySelectorAll(`#${id}, script.${id}`)) {
-    const block = part.textContent;
-    const before = run.cycles.length;
-    readFrames(run, block);
-    const first = block.indexOf(FRAME);
-    const last = run.cycles.length > before ? layLines(run, run.cycles.length - 1, new Map(NAMES.map((name) => [name, '']))) : 0;
-    if (first >= 0) block.slice(0, first).split(LINE).forEach((line) => readLine(run, line));
-    block.slice(last).split(LINE).forEach((line) => readLine(run, line));
+    for (const line of part.textContent.split(LINE)) (/^[0-9]/.test(line) ? readWrite : readLine)(run, line);
   }
   return run;
 }

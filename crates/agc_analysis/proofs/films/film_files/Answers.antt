@@ -2,13 +2,6 @@ use Rattle.std.proofs.lemmas.Result.{err_from_is_err_and}
 use Rattle.agc_study_args.proofs.Starts.{memory_refused}
 use Rattle.agc_analysis.proofs.films.film_files.Goals as goal
 
-pub returns-clause-film : goal.returns-clause-film
-returns-clause-film g c = record {
-  recording = c.in_ok-recording.recording;
-  filmed = c.in_ok-recording.ensures.filmed;
-  text = rw c.new-text.ensures.bytes at c.in_ok-push_film.ensures;
-}
-
 pub returns-in_err-push_film-clause-refused : goal.returns-in_err-push_film-clause-refused
 returns-in_err-push_film-clause-refused g c =
     let args = c.args.args.now in

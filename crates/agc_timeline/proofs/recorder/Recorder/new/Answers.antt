@@ -1,4 +1,4 @@
-use Rattle.std.proofs.Common.{List, [], ◌∷◌, ◌++◌, Global, Vec, ap, sym, ◌∙◌}
+use Rattle.std.proofs.Common.{List, [], ◌∷◌, ◌++◌, Global, None, Vec, ap, sym, ◌∙◌}
 use Rattle.agc_timeline.specs.declared.frame.Frame.{Frame}
 use Rattle.agc_timeline.proofs.Recorded.{opens_blank, opens_with}
 use Rattle.agc_timeline.proofs.recorder.Recorder.new.Goals as goal
@@ -6,7 +6,7 @@ use Rattle.agc_timeline.proofs.recorder.Recorder.new.Goals.{then-not-shows_same+
 
 pub returns : goal.returns
 returns c =
-    let opening : List Frame = record { cycle = c.args.cycle; panel = c.args.panel } ∷ [] in
+    let opening : List Frame = record { cycle = c.args.cycle; written = None; panel = c.args.panel } ∷ [] in
     λ before is. elim c.if-not-shows_same.branch [
       | then-not-shows_same+in_ok-push w ↦
           opens_with c.args.cycle before _ c.new.result c.new.ensures is

@@ -1,10 +1,10 @@
 //! Records who had the processor in a part of a run, as lines of text.
-use crate::shown::Shown;
 use crate::title::push_lines_of_names;
 use agc_listing::{Location, LocationRange, location_at};
 use agc_machine::{InHand, Machine, Upcoming};
 use agc_panel::{CheckedSpec, Tables};
 use agc_symbols::SymbolTable;
+use agc_timeline::LastTables;
 use agc_trace::Entry;
 use std::alloc::{AllocError, Global};
 
@@ -23,7 +23,7 @@ pub struct Mark {
 #[derive(Drop)]
 pub(crate) struct JobsRecord {
     pub(crate) text: String,
-    shown: Shown,
+    shown: LastTables,
     /// Whether the service of an interrupt is running.
     serving: bool,
     /// The first cycle of the slice in progress.
@@ -41,7 +41,7 @@ impl JobsRecord {
     ) -> Result<JobsRecord, AllocError> {
         let mut record = JobsRecord {
             text,
-            shown: Shown::nothing(alloc),
+            shown: LastTables::nothing(alloc),
             serving: machine.serving(),
             slice: 0,
             stolen: 0,

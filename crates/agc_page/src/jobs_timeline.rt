@@ -1,14 +1,14 @@
 //! Formats the page that shows who had the processor: a constant text with the lines of a part of a run in it.
+use crate::film_text::push_end;
 use crate::jobs_record::{JobsRecord, Mark, SLICE};
 use crate::page::{JOBS_HEAD, JOBS_TAIL};
-use crate::page_text::push_end;
 use crate::title::{push_lines_of_names, push_title};
-use crate::watching::go_to_first;
 use agc_io::{Progress, report_at};
 use agc_load::RunFiles;
 use agc_machine::Machine;
 use agc_panel::CheckedSpec;
 use agc_symbols::SymbolTable;
+use agc_timeline::go_to_first;
 use agc_trace::{Span, next_entry};
 use std::alloc::{AllocError, Global};
 

@@ -1,8 +1,4 @@
-//! The Executive's tables on the page, beside each run's DSKY, and the text after the runs.
-ghost use Rattle.std.specs.Prelude.{◌≡◌, ◌++◌, OnOk, string_bytes};
-ghost use Rattle.agc_timeline.specs.Tables.{script_with, tables_block, tables_with, tail_text};
-
-use std::alloc::AllocError;
+//! The Executive's tables on the page, beside each run's DSKY.
 
 /// The script that shows the tables. It follows the cycle that the script of the DSKY sets on the page.
 pub const TABLES: &str = "<script>
@@ -11,10 +7,8 @@ pub const TABLES: &str = "<script>
   const LINE = String.fromCharCode(10);
   const KEYFRAME_EVERY = 1024; // of so many changes one has all lines
 
-  // what a line is of: LST1, or a core set or a task by its number
   const nameOf = (words) => (words[0] === 'LST1' ? words[0] : words.slice(0, 2).join(' '));
 
-  // the changes of a run's tables: the cycle of each and its lines, of which each is laid over the one of its name
   function readTables(text) {
     const tables = { cycles: [], changes: [], keyframes: [] };
     const shown = new Map();
@@ -32,7 +26,6 @@ pub const TABLES: &str = "<script>
     return tables;
   }
 
-  // the place of the last change up to a cycle, or -1
   function placeOf(tables, cycle) {
     let low = 0;
     let high = tables.cycles.length;
@@ -43,7 +36,6 @@ pub const TABLES: &str = "<script>
     return low - 1;
   }
 
-  // what the tables show at a cycle
   function textAt(tables, cycle) {
     const place = placeOf(tables, cycle);
     if (place < 0) return '';
@@ -53,8 +45,6 @@ pub const TABLES: &str = "<script>
     return [...shown.values(), ''].join(LINE);
   }
 
-  // Below the DSKY of one run the bar with the controls would cover the tables of a low window, so in a wide one they stand
-  // beside it.
   const STYLE = `
 @media (min-width: 1100px) {
   .run.watched:only-child { display: grid; grid-template-columns: 460px minmax(0, 1fr); gap: 0 24px; align-items: start; width: 100%; }
@@ -88,62 +78,3 @@ pub const TABLES: &str = "<script>
 })();
 </script>
 ";
-
-/// Adds what follows the runs: the lines of the tables of each run that has some, the script that shows them if any
-/// run has, and the end of the page. Fails if memory runs out.
-#[tactic(auto, unfolding(crate::specs::Tables::tail_text))]
-pub fn push_tail(
-    text: &mut String,
-    script: &str,
-    tail: &str,
-    left: &Option<String>,
-    right: &Option<String>,
-) -> Result<(), AllocError>
-    ensures { OnOk result (string_bytes text.new
-        ≡ string_bytes text.old ++ tail_text script.now tail.now left.now right.now) }
-{
-    push_tables(text, "left", left)?;
-    push_tables(text, "right", right)?;
-    push_script(text, script, left, right)?;
-    text.push_str(tail)
-}
-
-/// Adds the lines of a run's tables, if it has some.
-fn push_tables(text: &mut String, name: &str, tables: &Option<String>) -> Result<(), AllocError>
-    ensures { OnOk result (string_bytes text.new
-        ≡ string_bytes text.old ++ tables_with name.now tables.now) }
-{
-    match tables {
-        Some(lines) => push_block(text, name, lines.as_str()),
-        None => Ok(()),
-    }
-}
-
-/// Adds lines as the block of a run's tables.
-#[tactic(auto, unfolding(crate::specs::Tables::tables_block))]
-fn push_block(text: &mut String, name: &str, lines: &str) -> Result<(), AllocError>
-    ensures { OnOk result (string_bytes text.new
-        ≡ string_bytes text.old ++ tables_block name.now lines.now) }
-{
-    text.push_str("<script type=\"text/plain\" id=\"")?;
-    text.push_str(name)?;
-    text.push_str("-tables\">\n")?;
-    text.push_str(lines)?;
-    text.push_str("</script>\n")
-}
-
-/// Adds a script, if a run has tables.
-fn push_script(
-    text: &mut String,
-    script: &str,
-    left: &Option<String>,
-    right: &Option<String>,
-) -> Result<(), AllocError>
-    ensures { OnOk result (string_bytes text.new
-        ≡ string_bytes text.old ++ script_with script.now left.now right.now) }
-{
-    match (left, right) {
-        (None, None) => Ok(()),
-        (Some(_), None) | (None, Some(_)) | (Some(_), Some(_)) => text.push_str(script),
-    }
-}

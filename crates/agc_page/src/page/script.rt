@@ -6,16 +6,10 @@ pub const TAIL: &str = "<script>
 const CYCLES_A_SECOND = 1024000 / 12;
 const LINE = String.fromCharCode(10);
 const BACKSLASH = String.fromCharCode(92);
-const FRAME = LINE + 'frame ';
-const BLOCK_SIZE = 2 ** 29; // more than a text of the browser can have
-const BLANK = 'PROG __,VERB __,NOUN __,R1 ______,R2 ______,R3 ______,FLASH off,LAMPS none'.split(',').join(LINE) + LINE;
-const NAMES = BLANK.split(LINE).map((line) => line.split(' ')[0]).filter(Boolean);
-const KEYFRAME_EVERY = 1024; // of so many frames one has all lines of its panel
+const KEPT_EVERY = 1024; // before so many writes the words of the panel are kept
 
-// the lamps beside the digits, row by row; those of the right column are cautions
 const LAMPS = 'UPLINK ACTY,TEMP,NO ATT,GIMBAL LOCK,,PROG,KEY REL,,OPR ERR,TRACKER,,ALT,ISS,VEL'.split(',');
 
-// the keys column by column, each column with the half row in which it begins
 const KEYS = [[2, 'VERB NOUN'], [1, '+ - 0'], [1, '7 4 1'], [1, '8 5 2'], [1, '9 6 3'], [1, 'CLR PRO KEYREL'], [2, 'ENTR RSET']];
 
 const SEGMENTS = {
@@ -31,9 +25,42 @@ const DIGITS = { 0: 'abcdef', 1: 'bc', 2: 'abdeg', 3: 'abcdg', 4: 'bcfg', 5: 'ac
 const SIGN_BARS = { g: '5,27 31,27 31,33 5,33', v: '15,14 21,14 21,26 15,26', w: '15,34 21,34 21,46 15,46' };
 const SIGNS = { '+': 'gvw', '-': 'g' };
 
+const ROWS = 13;
+const WORD_SIZE = 2 ** 15;
+
+const DIGIT_LINES = [['PROG', 0, '11L 11R'], ['VERB', 0, '10L 10R'], ['NOUN', 0, '9L 9R'],
+  ['R1', 7, '8R 7L 7R 6L 6R'], ['R2', 5, '5L 5R 4L 4R 3L'], ['R3', 2, '3R 2L 2R 1L 1R']]
+  .map(([name, plus, digits]) => [name, plus, digits.split(' ').map((digit) => [parseInt(digit, 10), digit.endsWith('L') ? 5 : 0])]);
+const CODES = [0o25, 0o03, 0o31, 0o33, 0o17, 0o36, 0o34, 0o23, 0o35, 0o37]; // of the digits 0 to 9
+
+const LAMP_BITS = [['COMP ACTY', 0, 2], ['UPLINK ACTY', 0, 3], ['NO ATT', 12, 4], ['TEMP', 0, 4], ['GIMBAL LOCK', 12, 6], ['PROG', 12, 9],
+  ['KEY REL', 0, 5], ['OPR ERR', 0, 7], ['TRACKER', 12, 8], ['ALT', 12, 5], ['VEL', 12, 3], ['ISS', 0, 1]];
+const FLASH_BIT = 6;
+
+function wordOf(channel, word) {
+  const row = channel === 0o11 ? 0 : (channel === 0o10 && word >> 11) || ROWS;
+  return row * WORD_SIZE + word;
+}
+
+function putWord(words, word) {
+  words[Math.floor(word / WORD_SIZE)] = word % WORD_SIZE;
+}
+
+function digitOf(code) {
+  const digit = CODES.indexOf(code);
+  return code === 0 ? '_' : digit < 0 ? '?' : String(digit);
+}
+
+function textOf(words) {
+  const isOn = (row, bit) => (words[row] >> (bit - 1)) % 2 === 1;
+  const signOf = (plus) => (plus === 0 ? '' : isOn(plus, 11) ? '+' : isOn(plus - 1, 11) ? '-' : '_');
+  const lines = DIGIT_LINES.map(([name, plus, digits]) => `${name} ${signOf(plus)}${digits.map(([row, shift]) => digitOf((words[row] >> shift) % 32)).join('')}`);
+  const lit = LAMP_BITS.filter(([, row, bit]) => isOn(row, bit)).map(([name]) => name);
+  return [...lines, `FLASH ${isOn(0, FLASH_BIT) ? 'on' : 'off'}`, `LAMPS ${lit.join(', ') || 'none'}`, ''].join(LINE);
+}
+
 const find = (id) => document.getElementById(id);
 
-// a file's name, in which a backslash with three octal digits stands for a byte
 function readName(text) {
   const bytes = [];
   for (let i = 0; i < text.length; i += 1) {
@@ -44,45 +71,25 @@ function readName(text) {
   return new TextDecoder().decode(Uint8Array.from(bytes));
 }
 
-// a key: whether PRO is held after it stands with it
 function readKey(cycle, name, before) {
   return { cycle, name, held: name.startsWith('PRO') ? name === 'PRO' : Boolean(before && before.held) };
 }
 
-// Takes the frames of a block: the cycle of each, and where its lines stand. These are looked at when they are shown.
-function readFrames(run, block) {
-  run.blocks.push(block);
-  for (let at = block.indexOf(FRAME); at >= 0; at = block.indexOf(FRAME, at)) {
-    const number = at + FRAME.length;
-    at = block.indexOf(LINE, number);
-    if (at < 0) at = block.length;
-    run.cycles.push(Number(block.slice(number, at)));
-    run.places.push((run.blocks.length - 1) * BLOCK_SIZE + at + 1);
-  }
+function readWrite(run, line) {
+  const [cycle, channel, word] = line.split(' ');
+  if (run.cycles.length % KEPT_EVERY === 0) run.kept.push([...run.shown]);
+  run.cycles.push(Number(cycle));
+  run.words.push(wordOf(parseInt(channel, 8), parseInt(word, 8)));
+  putWord(run.shown, run.words.at(-1));
 }
 
-// Lays the lines of a frame over those of its names. Returns where they end.
-function layLines(run, frame, lines) {
-  const block = run.blocks[Math.floor(run.places[frame] / BLOCK_SIZE)];
-  let from = run.places[frame] % BLOCK_SIZE;
-  for (;;) {
-    const end = block.indexOf(LINE, from);
-    const line = block.slice(from, end);
-    const name = line.slice(0, line.indexOf(' '));
-    if (end < 0 || !lines.has(name)) return from;
-    lines.set(name, line);
-    from = end + 1;
-  }
+function panelOf(run, place) {
+  const first = place - (place % KEPT_EVERY);
+  const words = place < 0 ? new Array(ROWS).fill(0) : [...run.kept[first / KEPT_EVERY]];
+  for (let one = Math.max(first, 0); one <= place; one += 1) putWord(words, run.words[one]);
+  return textOf(words);
 }
 
-// the panel of a frame: its keyframe with the lines that changed up to it
-function panelOf(run, frame) {
-  const lines = new Map(BLANK.split(LINE).map((line, i) => [NAMES[i], line]).filter(([name]) => name));
-  for (let one = frame - (frame % KEYFRAME_EVERY); one >= 0 && one <= frame; one += 1) layLines(run, one, lines);
-  return [...lines.values(), ''].join(LINE);
-}
-
-// takes a line that belongs to no frame
 function readLine(run, line) {
   const [word, number, ...rest] = line.split(' ');
   if (word === 'key') {
@@ -101,17 +108,10 @@ function readLine(run, line) {
   }
 }
 
-// a run of the page: its files and its limit, its frames, its keys and its end; before the first frame the panel is blank
 function readRun(id) {
-  const run = { id, blocks: [], cycles: [], places: [], keys: [], keyCycles: [], from: 0, stop: 0, reason: '', ended: false };
+  const run = { id, cycles: [], words: [], kept: [], shown: new Array(ROWS).fill(0), keys: [], keyCycles: [], from: 0, stop: 0, reason: '', ended: false };
   for (const part of document.querySelectorAll(`#${id}, script.${id}`)) {
-    const block = part.textContent;
-    const before = run.cycles.length;
-    readFrames(run, block);
-    const first = block.indexOf(FRAME);
-    const last = run.cycles.length > before ? layLines(run, run.cycles.length - 1, new Map(NAMES.map((name) => [name, '']))) : 0;
-    if (first >= 0) block.slice(0, first).split(LINE).forEach((line) => readLine(run, line));
-    block.slice(last).split(LINE).forEach((line) => readLine(run, line));
+    for (const line of part.textContent.split(LINE)) (/^[0-9]/.test(line) ? readWrite : readLine)(run, line);
   }
   return run;
 }
@@ -123,7 +123,6 @@ const parting = find('parting') ? Number(find('parting').textContent) : NaN;
 let now = begin;
 let playing = false;
 
-// the place of the last of some rising cycles up to a cycle, or -1
 function lastUpTo(cycles, cycle) {
   let low = 0;
   let high = cycles.length;
@@ -134,11 +133,9 @@ function lastUpTo(cycles, cycle) {
   return low - 1;
 }
 
-// the last change before a cycle, and the first one after it
 const changeBefore = (cycle) => Math.max(begin, ...runs.map((run) => run.cycles[lastUpTo(run.cycles, Math.ceil(cycle) - 1)] ?? begin));
 const changeAfter = (cycle) => Math.min(end, ...runs.map((run) => run.cycles[lastUpTo(run.cycles, cycle) + 1] ?? end));
 
-// places for digits, of which the first may be a sign
 function places(name, count, kind) {
   const bars = (shapes) => Object.entries(shapes).map(([bar, points]) => `<polygon data-bar='${bar}' points='${points}'/>`).join('');
   const place = (i) => `<svg viewBox='0 0 36 60'>${bars(count === 6 && i === 0 ? SIGN_BARS : SEGMENTS)}</svg>`;
@@ -154,7 +151,6 @@ function keyPad() {
   return KEYS.flatMap(([row, names], i) => names.split(' ').map((name, j) => key(name, i + 1, row + 2 * j))).join('');
 }
 
-// the DSKY of a run, with its panel and its keys as text below
 function build(run) {
   const lamps = LAMPS.map((name, i) => `<li class='${i % 2 ? 'caution' : ''}' data-lamp='${name}'>${name}</li>`).join('');
   const pair = (name) => `<div><span class='name'>${name}</span>${places(name, 2, '')}</div>`;
@@ -170,7 +166,6 @@ function build(run) {
   run.section = section;
 }
 
-// the names of a run's files
 function files(run) {
   return `${run.rope}, ${run.script}`;
 }
@@ -180,7 +175,6 @@ function showTitle() {
   document.title = `${runs.map(files).join('; ')}; limit ${runs[0].limit}`;
 }
 
-// lights up what a panel's text says
 function showPanel(run, text) {
   if (run.text === text) return;
   run.text = text;
@@ -199,7 +193,6 @@ function showPanel(run, text) {
   }
 }
 
-// A key stays down for a quarter of a second at the speed that is set, or until the next one; PRO until it comes up.
 function showKeys(run) {
   const last = lastUpTo(run.keyCycles, now);
   const key = run.keys[last];
@@ -233,7 +226,6 @@ function show(cycle) {
   document.body.dataset.cycle = Math.floor(now);
 }
 
-// the strip: for each run its changes below a line, its keys above it, and the first difference
 function drawStrip() {
   const strip = find('strip');
   const scale = window.devicePixelRatio || 1;
@@ -246,7 +238,6 @@ function drawStrip() {
   const length = Math.max(1, end - begin);
   const place = (cycle) => 8 + (width - 16) * ((cycle - begin) / length);
   const stroke = (cycle, top, height, wide) => pen.fillRect(place(cycle) - wide / 2, top, wide, height);
-  // of cycles that lie closer than a quarter of a point the first one
   const strokes = (cycles, top) => {
     for (let i = lastUpTo(cycles, begin - 1) + 1; i < cycles.length; i = lastUpTo(cycles, cycles[i] + length / width / 4) + 1) stroke(cycles[i], top, lane / 2 - 3, 1);
   };
@@ -299,7 +290,6 @@ const SPEED_KEYS = ['', '', '1', '2', '3', '4']; // those of the speeds, the slo
 const SPEED_STEPS = { '<': -1, '>': 1 };
 const SHORTCUTS = { ' ': 'play', ArrowLeft: 'previous', ArrowRight: 'next', Home: 'start', End: 'end', d: 'difference', D: 'difference' };
 
-// the place among the speeds that a key sets, or -1
 function speedOf(key) {
   const step = SPEED_STEPS[key];
   return step ? Math.min(Math.max(find('speed').selectedIndex + step, 0), SPEED_KEYS.length - 1) : SPEED_KEYS.indexOf(key);
@@ -319,7 +309,6 @@ function onKey(event) {
   }
 }
 
-// '#cycle=1234' goes to a cycle (another text is ignored), and '#press=ArrowRight,Space' presses keys of the browser
 function followHash() {
   const asked = new URLSearchParams(location.hash.slice(1));
   if (/^[0-9]+$/.test(asked.get('cycle') ?? '')) go(Number(asked.get('cycle')));
@@ -345,7 +334,6 @@ function start() {
   followHash();
 }
 
-// A run without its end was not read whole.
 const unread = ['left', 'right'].filter((id) => (id === 'left' || find(id)) && !runs.some((run) => run.id === id && run.ended));
 if (unread.length) {
   find('trouble').textContent = `This film cannot be read: the browser finds no end of the run ${unread.join(' and ')}. The file is cut off, or the browser cannot hold it; a film of a part, by --from and --to, is shorter.`;
