@@ -20,7 +20,7 @@ HERE = os.path.dirname(os.path.abspath(__file__))
 SIDES = ('left', 'right')
 FIELDS = ('PROG', 'VERB', 'NOUN', 'R1', 'R2', 'R3')
 LINES = (*FIELDS, 'FLASH', 'LAMPS')
-KEYFRAME_EVERY = 1024
+KEPT_EVERY = 1024  # changes, after each of which the page keeps what is shown
 BLOCKS = re.compile('(?:<script type="text/plain".*?</script>\n)+', re.DOTALL)
 
 # The segments of the DSKY's digits: a top, b upper right, c lower right, d bottom, e lower left, f upper left, g middle.
@@ -32,6 +32,15 @@ SIGNS = {'+': 'g lower upper', '-': 'g', '_': ''}
 LAMPS = ['UPLINK ACTY', 'TEMP', 'NO ATT', 'GIMBAL LOCK', '', 'PROG', 'KEY REL', '', 'OPR ERR', 'TRACKER', '', 'ALT', 'ISS', 'VEL']
 WHITE, AMBER, DARK = 'rgb(255, 243, 207)', 'rgb(255, 185, 56)', 'rgb(61, 63, 57)'
 GREEN, DARK_GREEN = 'rgb(77, 255, 143)', 'rgb(22, 32, 26)'
+
+# The relay words: each digit's row and side of it, the rows of the sign relays, and the row and bit of each lamp. Channel 11
+# stands for a row 0.
+CODES = dict(zip('_0123456789?', (0o00, 0o25, 0o03, 0o31, 0o33, 0o17, 0o36, 0o34, 0o23, 0o35, 0o37, 0o01)))
+DIGIT_ROWS = {'PROG': '11L 11R', 'VERB': '10L 10R', 'NOUN': '9L 9R', 'R1': '8R 7L 7R 6L 6R', 'R2': '5L 5R 4L 4R 3L', 'R3': '3R 2L 2R 1L 1R'}
+SIGN_ROWS = {'R1': {'+': 7, '-': 6}, 'R2': {'+': 5, '-': 4}, 'R3': {'+': 2, '-': 1}}
+LAMP_BITS = {'COMP ACTY': (0, 2), 'UPLINK ACTY': (0, 3), 'NO ATT': (12, 4), 'TEMP': (0, 4), 'GIMBAL LOCK': (12, 6), 'PROG': (12, 9), 'KEY REL': (0, 5),
+             'OPR ERR': (0, 7), 'TRACKER': (12, 8), 'ALT': (12, 5), 'VEL': (12, 3), 'ISS': (0, 1)}
+FLASH_BIT, SIGN_BIT, ROWS = 6, 11, 13
 
 # The keyboard: its columns from the left, each from above. The outer ones begin half a key lower.
 KEYBOARD = [['VERB', 'NOUN'], ['+', '-', '0'], ['7', '4', '1'], ['8', '5', '2'], ['9', '6', '3'], ['CLR', 'PRO', 'KEYREL'],
@@ -115,32 +124,76 @@ def panel(lamps='none', flash='off', **fields):
     return '\n'.join([*lines, f'FLASH {flash}', f'LAMPS {lamps}']) + '\n'
 
 
+def digits_of(name):
+    """The digits of a line of the panel: the row of each, and how far to the left it stands there."""
+    return [(int(digit[:-1]), 5 if digit[-1] == 'L' else 0) for digit in DIGIT_ROWS[name].split()]
+
+
+def words_of(shown):
+    """The words that give a panel, by their rows."""
+    lines = dict(line.split(' ', 1) for line in shown.splitlines())
+    bits = [LAMP_BITS[lamp] for lamp in lines['LAMPS'].split(', ') if lamp != 'none']
+    bits += [(0, FLASH_BIT)] if lines['FLASH'] == 'on' else []
+    bits += [(rows[lines[name][0]], SIGN_BIT) for name, rows in SIGN_ROWS.items() if lines[name][0] in rows]
+    words = [row << 11 for row in range(ROWS)]
+    for row, bit in bits:
+        words[row] |= 1 << (bit - 1)
+    for name in FIELDS:
+        for (row, shift), digit in zip(digits_of(name), lines[name][-len(digits_of(name)):]):
+            words[row] |= CODES[digit] << shift
+    return words
+
+
+def panel_of(words):
+    """The panel that words give, as agc prints it."""
+    glyphs = {code: digit for digit, code in CODES.items()}
+    def is_on(row, bit): return words[row] >> (bit - 1) & 1
+    fields = {}
+    for name in FIELDS:
+        sign = ''.join([sign for sign, row in SIGN_ROWS[name].items() if is_on(row, SIGN_BIT)] or ['_'])[0] if name in SIGN_ROWS else ''
+        fields[name] = sign + ''.join(glyphs.get(words[row] >> shift & 0o37, '?') for row, shift in digits_of(name))
+    lit = [lamp for lamp, (row, bit) in LAMP_BITS.items() if is_on(row, bit)]
+    return panel(lamps=', '.join(lit) or 'none', flash='on' if is_on(0, FLASH_BIT) else 'off', **fields)
+
+
+def write(cycle, row, word):
+    """The line of a write of a row's word."""
+    return f'{cycle} {"010" if row else "011"} {word:05o}\n'
+
+
 def run(frames, keys=(), stop=2000000, rope='rope', script='script'):
-    """A block of a run: its files and limit, its frames and keys by their cycles, and its stop."""
-    text = f'\nrope {rope}\nscript {script}\nlimit {stop}\n' + ''.join(f'frame {cycle}\n{shown}' for cycle, shown in frames)
+    """A block of a run: its files and limit, the writes that make its panels, its keys, and its stop."""
+    text, words = f'\nrope {rope}\nscript {script}\nlimit {stop}\n', words_of(panel())
+    for cycle, shown in frames:
+        text += ''.join(write(cycle, row, word) for row, word in enumerate(words_of(shown)) if word != words[row])
+        words = words_of(shown)
     return text + ''.join(f'key {cycle} {name}\n' for cycle, name in keys) + f'stop {stop} Limit\n'
 
 
 def written_in(page, side):
-    """The frames of a run of a page as they are written: their cycles, and the lines that each has."""
+    """The lines of the writes of a run of a page."""
     blocks = re.findall(f'<script type="text/plain" (?:id|class)="{side}">\n(.*?)</script>', page, re.DOTALL)
-    frames = []
-    for line in ''.join(blocks).splitlines():
-        word, _, rest = line.partition(' ')
-        if word == 'frame':
-            frames.append((int(rest), []))
-        elif word in LINES:
-            frames[-1][1].append(line)
-    return frames
+    return re.findall('^([0-9]+) (01[01]) ([0-7]{5})$', ''.join(blocks), re.MULTILINE)
+
+
+def panels_by(writes):
+    """What the panel shows after writes: the cycle of each change, and the panel then."""
+    frames, words = [(-1, panel())], words_of(panel())
+    for cycle, channel, octal in writes:
+        word = int(octal, 8)
+        row = 0 if channel == '011' else word >> 11 or ROWS
+        if row < ROWS:
+            words[row] = word
+        shown = panel_of(words)
+        if shown != frames[-1][1]:
+            frames = frames[:-1] if frames[-1][0] == int(cycle) else frames
+            frames.append((int(cycle), shown))
+    return frames[1:]
 
 
 def frames_in(page, side):
-    """The frames of a run of a page, unpacked: their cycles and panels."""
-    frames, shown = [], dict(zip(LINES, panel().splitlines()))
-    for cycle, lines in written_in(page, side):
-        shown.update((line.split(' ')[0], line) for line in lines)
-        frames.append((cycle, ''.join(shown[name] + '\n' for name in LINES)))
-    return frames
+    """The changes of a run of a page: their cycles and panels."""
+    return panels_by(written_in(page, side))
 
 
 def segments_of(text):
@@ -208,7 +261,8 @@ def try_blocks(tries):
     """A run of several blocks is read to its end, whatever stands in which block."""
     border = '</script>\n<script type="text/plain" class="left">\n'
     shown = [panel(PROG=f'{n}{n}', lamps='VEL' if n % 2 else 'none', flash='on' if n % 2 else 'off') for n in range(1, 7)]
-    parts = [f'frame {100000 * n}\n{text}' for n, text in enumerate(shown, 1)]
+    whole = run([(100000 * n, text) for n, text in enumerate(shown, 1)])
+    parts = [''.join(re.findall(f'^{100000 * n} .*\n', whole, re.MULTILINE)) for n in range(1, 7)]
     text = '\nrope r\nscript s\nlimit 2000000\n' + border + parts[0] + parts[1] + border + ''.join(parts[2:]) + border
     tries.open(tries.page('parts.html', left=text + 'key 150000 VERB\nstop 2000000 Limit\n'))
     for n, wanted in enumerate([panel(), *shown]):
@@ -225,8 +279,8 @@ def try_long_film(tries):
     page = tries.file('long.html')
     tries.check('the blocks', ['id="left"', 'class="left"'], re.findall('<script type="text/plain" (.*)>', page))
     blocks = page.split('</script>\n<script type="text/plain" class="left">\n')
-    cycles = [re.findall('^frame ([0-9]*)$', block, re.MULTILINE) for block in blocks]
-    tries.check('how many frames the first block has', 65536, len(cycles[0]))
+    cycles = [re.findall('^([0-9]+) 010 [0-7]{5}$', block, re.MULTILINE) for block in blocks]
+    tries.check('how many changes the first block has', 65536, len(cycles[0]))
     before, after = int(cycles[0][-1]), int(cycles[1][0])
     tries.check('the second block goes on', True, before < after)
     tries.open('long.html', f'cycle={before}')
@@ -235,41 +289,57 @@ def try_long_film(tries):
     tries.check('the panel after the border', (after, panel(PROG='12')), (tries.cycle(), tries.look("panel('left')")))
     tries.press('ArrowLeft', 'ArrowLeft')
     tries.check('back over the border', (int(cycles[0][-2]), panel(PROG='12')), (tries.cycle(), tries.look("panel('left')")))
-    try_keyframes(tries, written_in(page, 'left'))
+    try_kept(tries, written_in(page, 'left'))
 
 
-def try_keyframes(tries, frames):
-    """Each 1024th frame has all lines, and each other one those alone that changed: that of PROG."""
-    whole = [panel(PROG='12').splitlines()] * len(frames[::KEYFRAME_EVERY])
-    tries.check('the keyframes', whole, [lines for _, lines in frames[::KEYFRAME_EVERY]])
-    others = [lines for place, (_, lines) in enumerate(frames) if place % KEYFRAME_EVERY]
-    tries.check('the other frames', [['PROG 11'], ['PROG 12']], [list(lines) for lines in sorted(set(map(tuple, others)))])
-    for place in (KEYFRAME_EVERY - 1, KEYFRAME_EVERY, KEYFRAME_EVERY + 1, 10 * KEYFRAME_EVERY - 1):
-        tries.go(frames[place][0])
-        tries.check(f'the panel of frame {place}', panel(PROG='11' if place % 2 else '12'), tries.look("panel('left')"))
+def try_kept(tries, writes):
+    """The words of the log in turns; the panel beside the changes after which the page keeps it."""
+    tries.check('the words of the writes', [('010', '54171'), ('010', '54143')] * (len(writes) // 2), [each[1:] for each in writes[:len(writes) // 2 * 2]])
+    for place in (KEPT_EVERY - 1, KEPT_EVERY, KEPT_EVERY + 1, 10 * KEPT_EVERY - 1):
+        tries.go(writes[place][0])
+        tries.check(f'the panel of change {place}', panel(PROG='11' if place % 2 else '12'), tries.look("panel('left')"))
 
 
-def try_unpacking(tries):
-    """Frames of the lines that changed alone: what a frame does not say stays, as far as the keyframe before it."""
-    frames = [(1000, panel(PROG='12', R1='+12345', lamps='TEMP')), (2000, 'PROG 34\n'), (3000, 'R1 ______\nFLASH on\n'),
-              (4000, 'LAMPS none\n'), (5000, 'PROG __\nVERB 16\n')]
-    wanted = [panel(), panel(PROG='12', R1='+12345', lamps='TEMP'), panel(PROG='34', R1='+12345', lamps='TEMP'),
-              panel(PROG='34', flash='on', lamps='TEMP'), panel(PROG='34', flash='on'), panel(VERB='16', flash='on')]
-    tries.open(tries.page('packed.html', left=run(frames, [(1500, 'VERB')])))
+def try_log(tries):
+    """A film has the writes of agc's log that change what the panel shows."""
+    log = re.findall('^([0-9]+) ([0-7]{3}) ([0-7]{5})$', tries.file('log'), re.MULTILINE)
+    changing = {cycle for cycle, _ in panels_by([each for each in log if each[1] in ('010', '011')])}
+    tries.check('the writes of a film', [each for each in log if int(each[0]) in changing], written_in(tries.file('one.html'), 'left'))
+    # a minus relay under a plus sign comes with the write that takes the plus away
+    tries.check('the writes of hidden relays', [('3', '010', '36000'), ('13', '010', '32000'), ('13', '010', '34000')],
+                written_in(tries.file('signs.html'), 'left'))
+    tries.open('signs.html')
+    for cycle, sign in ((2, '_'), (3, '+'), (12, '+'), (13, '-'), (20, '-')):
+        tries.go(cycle)
+        tries.check(f'the sign at {cycle}', panel(R1=f'{sign}_____'), tries.look("panel('left')"))
+
+
+def try_writes(tries):
+    """A write changes the digits of its row alone, forwards and backwards, also where several come at a cycle."""
+    frames = [(1000, panel(PROG='12', R1='+12345', lamps='TEMP')), (2000, panel(PROG='34', R1='+12345', lamps='TEMP')),
+              (3000, panel(PROG='34', flash='on', lamps='TEMP')), (4000, panel(PROG='34', flash='on')), (5000, panel(VERB='16', flash='on'))]
+    wanted = [panel(), *(shown for _, shown in frames)]
+    tries.open(tries.page('writes.html', left=run(frames, [(1500, 'VERB')])))
     for place, shown in enumerate(wanted):
         tries.go(1000 * place + 500)
-        tries.check(f'the panel of {1000 * place + 500}, unpacked', shown, tries.look("panel('left')"))
+        tries.check(f'the panel of {1000 * place + 500} by writes', shown, tries.look("panel('left')"))
     for place, shown in reversed(list(enumerate(wanted))):
         tries.go(1000 * place)
-        tries.check(f'the panel of {1000 * place}, unpacked backwards', shown, tries.look("panel('left')"))
-    # the keyframe at place 1024 says all: what stands before it does not show through
-    many = [(10 * n, panel(NOUN='77') if n == 1 else f'VERB {n % 64:02o}\n') for n in range(1, KEYFRAME_EVERY + 1)]
-    after = (10 * KEYFRAME_EVERY + 10, panel(PROG='21'))
-    tries.open(tries.page('many.html', left=run([*many, after, (after[0] + 10, 'PROG 22\n')])))
+        tries.check(f'the panel of {1000 * place} by writes, backwards', shown, tries.look("panel('left')"))
+    # more writes than the page keeps the panel for
+    many = [(10 * n, panel(NOUN='77', VERB=f'{n % 64:02o}' if n > 1 else '__')) for n in range(1, KEPT_EVERY + 1)]
+    after = (10 * KEPT_EVERY + 10, panel(PROG='21'))
+    tries.open(tries.page('many.html', left=run([*many, after, (after[0] + 10, panel(PROG='22'))])))
     for cycle, shown in [(after[0] - 10, panel(VERB='00', NOUN='77')), (after[0], panel(PROG='21')), (after[0] + 10, panel(PROG='22')),
                          (50, panel(VERB='05', NOUN='77'))]:
         tries.go(cycle)
-        tries.check(f'the panel of {cycle} beside a keyframe', shown, tries.look("panel('left')"))
+        tries.check(f'the panel of {cycle} of many writes', shown, tries.look("panel('left')"))
+    # what is of no row of the panel, and a code that is no digit
+    other = '\nrope r\nscript s\nlimit 50\n10 010 54171\n20 010 00377\n30 010 64777\n40 010 54133\nstop 50 Limit\n'
+    tries.open(tries.page('other.html', left=other))
+    for cycle, shown in ((30, panel(PROG='12')), (40, panel(PROG='?3'))):
+        tries.go(cycle)
+        tries.check(f'the panel of {cycle} beside words of no row', shown, tries.look("panel('left')"))
 
 
 def try_part(tries):
@@ -376,19 +446,19 @@ def try_tables(tries):
 
 
 def try_many_tables(tries):
-    """More changes than a keyframe is for: what a change does not say stays, from wherever it is gone to."""
-    changes = 2 * KEYFRAME_EVERY + 3
+    """More changes than the page keeps the tables for: what a change does not say stays, from wherever it is gone to."""
+    changes = 2 * KEPT_EVERY + 3
     told = [f'0 {line}\n' for line in tables('FREE', 'FREE').splitlines()]
     told += [f'{10 * n} LST1 {n:05o}' + ' 00000' * 7 + '\n' for n in range(1, changes)]
     tries.open(tries.page('many_tables.html', 'tables.html', **{'left': run([], stop=100000), 'left-tables': '\n' + ''.join(told)}))
-    for n in (0, 1, KEYFRAME_EVERY - 1, KEYFRAME_EVERY, KEYFRAME_EVERY + 1, changes - 1, 2 * KEYFRAME_EVERY, 5, KEYFRAME_EVERY):
+    for n in (0, 1, KEPT_EVERY - 1, KEPT_EVERY, KEPT_EVERY + 1, changes - 1, 2 * KEPT_EVERY, 5, KEPT_EVERY):
         tries.go(10 * n + 9)
         tries.check(f'the tables of change {n}', tables('FREE', 'FREE', time=f'{n:05o}'), tries.look("tables('left')"))
 
 
 def try_remark(tries):
     """A film of more than a million frames has a remark that names a part; the page is shown all the same."""
-    frames = tries.file('million.html').count('\nframe ')
+    frames = len(written_in(tries.file('million.html'), 'left'))
     tries.check('more than a million frames', True, frames > 1000000)
     told = f'agc-study: the film has {frames} frames, and a browser may be slow with it; --from and --to film a part\n'
     tries.check('the remark on a long film', told, tries.file('remark'))
@@ -396,6 +466,9 @@ def try_remark(tries):
     tries.open('million.html', 'cycle=5650000')
     shown = tries.look("panel('left')")
     tries.check('a long film is shown', True, shown in (panel(PROG='11'), panel(PROG='12')))
+    times = [tries.browser.value(f'(() => {{ const from = performance.now(); go({cycle}); return performance.now() - from; }})()')
+             for cycle in (5699999, 7, 2850001, 12345, 4000000, 5650000)]
+    tries.check(f'each change is shown within 100 ms: {times}', True, sorted(times)[len(times) // 2] < 100)
     tries.open('few.html', 'cycle=5650000')
     tries.check('its part shows the same', shown, tries.look("panel('left')"))
 
@@ -689,7 +762,7 @@ def try_playing(tries):
 
 
 TRIES = (
-    try_constants, try_film, try_changes, try_blocks, try_unpacking, try_long_film, try_remark, try_part, try_tables,
+    try_constants, try_film, try_changes, try_log, try_blocks, try_writes, try_long_film, try_remark, try_part, try_tables,
     try_two_films, try_long_names, try_links, try_segments, try_lamps, try_keyboard, try_keys, try_short_run, try_two_runs,
     try_unread, try_words, try_slider, try_speeds, try_playing,
 )
