@@ -169,6 +169,70 @@ fn parts_and_the_stop(rt: HostRuntime) {
     stops(&rt, &part_of(&rt, 4, 1), 1, None, 4);
 }
 
+/// Sets the plus relay of R1, then the minus relay, and then takes plus away.
+static SIGNS: &str = "
+4000 34012 CA 4012
+4001 00006 EXTEND
+4002 01010 WRITE 10
+4003 34013 CA 4013
+4004 00006 EXTEND
+4005 01010 WRITE 10
+4006 34014 CA 4014
+4007 00006 EXTEND
+4010 01010 WRITE 10
+4011 14011 TCF 4011
+4012 36000 row 7 with the plus relay
+4013 32000 row 6 with the minus relay
+4014 34000 row 7 without it
+";
+
+/// The writes are those of 3, 8 and 13. That of 8 shows nothing, so its word comes with that of 13; the panel at 10 has both
+/// relays.
+#[test]
+fn a_minus_relay_under_a_plus_sign(rt: HostRuntime) {
+    let whole = reel_of(&rt, SIGNS, "", 20);
+    stops(&rt, &whole, 2, Some(Stop::Limit), 20);
+    let named = files(&rt, "signs", "none");
+    let page = page_of(&rt, 20, &named, &whole);
+    shows(
+        &rt,
+        page.as_str(),
+        &[
+            "left\">",
+            "rope signs",
+            "script none",
+            "limit 20",
+            "from 0",
+            "3 010 36000",
+            "13 010 32000",
+            "13 010 34000",
+            "stop 20 Limit",
+            "</script>",
+        ],
+    );
+    let mut machine = machine_of(&rt, SIGNS, "", 20);
+    let part = film(rt.alloc(), &mut machine, Span { from: 10, to: 15 }, &mut NoProgress)
+        .ok()
+        .expect(&rt, "memory");
+    let page = page_of(&rt, 20, &named, &part);
+    shows(
+        &rt,
+        page.as_str(),
+        &[
+            "left\">",
+            "rope signs",
+            "script none",
+            "limit 20",
+            "from 10",
+            "10 010 32000",
+            "10 010 36000",
+            "13 010 34000",
+            "to 15",
+            "</script>",
+        ],
+    );
+}
+
 /// Waits.
 static IDLE: &str = "
 4000 14000 TCF 4000
