@@ -42,6 +42,7 @@ import quantities
 import rooms
 import stepped
 import storms
+import texts
 import timelines
 import times
 import views
@@ -1555,7 +1556,7 @@ TRIES = (
     try_writes, try_views, try_look, try_rate, try_latency, try_killed, try_end, try_blanks, try_two, try_command,
     try_serve, try_gone, try_hangup, try_lander, try_late_view, try_names_and_pictures, try_stop, try_random, try_face,
     try_client, *ends.TRIES, *rooms.TRIES, *times.TRIES, *found.TRIES, *listens.TRIES, *looks.TRIES, *quantities.TRIES,
-    *nouns.TRIES, *timelines.TRIES, *causes.TRIES, *stepped.TRIES, *lesson.TRIES,
+    *nouns.TRIES, *timelines.TRIES, *causes.TRIES, *stepped.TRIES, *lesson.TRIES, *texts.TRIES,
 )
 
 
