@@ -14,6 +14,7 @@ import judge
 import merging
 import pages
 import patterns
+import slips
 import sums
 
 BANK = 0o2000
@@ -361,7 +362,7 @@ def main():
     draw = random.Random(int(os.environ.get("RESTORE_SEED", "69")))
     for group in (single_words, two_that_fit, sums_unknown, stuck_columns, changed_bits, layouts, modules,
                   moved_modules, repeated_code, parity_bits, sound_ropes, *merging.GROUPS, *sums.GROUPS, *patterns.GROUPS, *banks.GROUPS,
-                  merging.five_commands, *pages.GROUPS):
+                  *slips.GROUPS, merging.five_commands, *pages.GROUPS):
         judge.attempt(group, draw)
     judge.finish()
 
