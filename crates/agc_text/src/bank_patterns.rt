@@ -579,7 +579,7 @@ fn push_all_changed(
         "{kind}: all words; with that undone the sums of all used banks are right"
     )?;
     match bank_cut(form, read) {
-        Some(bank) if fit_in(rope, bank, read) == SumFit::Neither => {
+        Some(bank) if is_used_read(rope, bank, read) && !has_sum(rope, bank, read) => {
             write!(text, ", but for bank {bank:02o}, which lost a word")?;
         }
         _ => {}
