@@ -120,8 +120,10 @@ def judge_stuck(what, sound, words, parts):
 def stuck_parts(draw):
     """A bit that is 0 or 1 in a half bank, a bank or a module; two columns; a column beside single wrong words."""
     for n in range(9):
-        sound = draw_rope(draw, [2, 3, 6, 7, 9, 11, 20, 30], 700)
         bit, value = draw.randrange(16), n % 2
+        sound = [1 << bit]
+        while 1 << bit in sound:  # such a word would be 0
+            sound = draw_rope(draw, [2, 3, 6, 7, 9, 11, 20, 30], 700)
         first, count, name = ((7 * BANK + HALF * (n % 2), HALF, "a half bank"), (9 * BANK, BANK, "a bank"),
                               (MODULE, MODULE, "module 2"))[n % 3]
         words = list(sound)
