@@ -147,10 +147,13 @@ def words_of(shown):
 def panel_of(words):
     """The panel that words give, as agc prints it."""
     glyphs = {code: digit for digit, code in CODES.items()}
-    def is_on(row, bit): return words[row] >> (bit - 1) & 1
     fields = {}
+
+    def is_on(row, bit):
+        return words[row] >> (bit - 1) & 1
+
     for name in FIELDS:
-        sign = ''.join([sign for sign, row in SIGN_ROWS[name].items() if is_on(row, SIGN_BIT)] or ['_'])[0] if name in SIGN_ROWS else ''
+        sign = next((sign for sign, row in SIGN_ROWS[name].items() if is_on(row, SIGN_BIT)), '_') if name in SIGN_ROWS else ''
         fields[name] = sign + ''.join(glyphs.get(words[row] >> shift & 0o37, '?') for row, shift in digits_of(name))
     lit = [lamp for lamp, (row, bit) in LAMP_BITS.items() if is_on(row, bit)]
     return panel(lamps=', '.join(lit) or 'none', flash='on' if is_on(0, FLASH_BIT) else 'off', **fields)
