@@ -168,7 +168,7 @@ fn write_film_pair<R: Read, W: Write, E: Write, N: Write, P: ProgressLine>(
 
 /// Writes a page. Returns status 0, or 3 if the write fails.
 fn write_page<W: Write, N: Write>(page: &FilmPage, out: &mut W, remarks: &mut N) -> u8
-    ensures status { (result ≡ 0) ⊎ (result ≡ 3) }
+    ensures { (result ≡ 0) ⊎ (result ≡ 3) }
 {
     remark_on_length(page.frames, remarks);
     status_of(OK, write_in_full(out, page.text.as_bytes()))

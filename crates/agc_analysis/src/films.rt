@@ -33,7 +33,7 @@ pub fn film_files<R: Read, P: Progress>(
     inputs: &mut RunInputs<R>,
     progress: &mut P,
 ) -> Result<FilmPage, LoadFault>
-    ensures refused { IfErr result (IsFilmRefused args.now
+    ensures { IfErr result (IsFilmRefused args.now
         (R.remaining inputs.old.rope) (R.remaining inputs.old.script)) }
 {
     let recording = record_run(alloc, args, inputs, progress)?;
@@ -54,7 +54,7 @@ pub fn film_file_pairs<R: Read, P: Progress>(
     right: &mut RunInputs<R>,
     progress: &mut P,
 ) -> Result<FilmPage, AnalysisFault>
-    ensures refused { IfErr result (IsFilmPairRefused args.now
+    ensures { IfErr result (IsFilmPairRefused args.now
         (R.remaining left.old.rope) (R.remaining left.old.script)
         (R.remaining right.old.rope) (R.remaining right.old.script)) }
 {
