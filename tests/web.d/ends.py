@@ -1,5 +1,6 @@
 """The ends of a session: whatever the machine does, no signal and no full disk loses its script."""
 import os
+import pty
 import resource
 import shutil
 import signal
@@ -176,6 +177,19 @@ def try_full_disk():
     judge('a full disk is no fault of the port', wanted, (done.returncode, done.stderr))
 
 
+def try_lost_terminal():
+    """If the address cannot be printed, the session ends, and its script is saved."""
+    master, terminal = pty.openpty()
+    os.close(master)
+    for what, output, reason in (('full', os.open('/dev/full', os.O_WRONLY), 'No space left on device'), ('gone', terminal, 'Input/output error')):
+        saved = os.path.join(FOLDER, f'lost-{what}')
+        words = [os.path.join(TOP, 'agc-web'), example('verbs', 'rope'), example('verbs', 'script'), '--port', '0', '--save', saved]
+        done = subprocess.run(words, stdout=output, stderr=subprocess.PIPE, text=True, timeout=LONGEST)
+        os.close(output)
+        wanted = (0, f'agc-web: standard output: {reason}\n', read(example('verbs', 'script')))
+        judge(f'the terminal is {what}: the script is saved', wanted, (done.returncode, done.stderr, read(saved)))
+
+
 def copy_with_study(name, program):
     """Copies the client into a folder, with a stand-in as its agc-study; returns the folder."""
     folder = os.path.join(FOLDER, name)
@@ -249,6 +263,6 @@ def try_killed_on_the_way():
 
 
 TRIES = (
-    try_stopped_console, try_busy_machine, try_second_signal, try_refused_files, try_full_disk, try_full_output, try_film_end,
+    try_stopped_console, try_busy_machine, try_second_signal, try_refused_files, try_full_disk, try_lost_terminal, try_full_output, try_film_end,
     try_killed_on_the_way,
 )

@@ -66,8 +66,8 @@ def serve(
             if begin is not None:
                 begin(session)
             server.start()
-            _show(server, open_page)
-            ending.wait()
+            if _is_shown(server, open_page, file):
+                ending.wait()
             repeat = session.repeat()
             _leave(ending, repeat, file, os.fspath(console.rope), form)
             return repeat.script
@@ -166,6 +166,19 @@ def _bound(session: Session, about: Dict[str, Any], port: Optional[int], films: 
         if port is not None:
             raise OSError(error.errno or 0, error.strerror or str(error), "port") from None
         return Server(session, about, 0, films, listen)
+
+
+def _is_shown(server: Server, open_page: bool, file: Optional[ScriptFile]) -> bool:
+    """Shows the page, and returns whether that went well. If the terminal is gone, the session ends, and its file takes the
+    script all the same; without a file `OSError` is raised."""
+    try:
+        _show(server, open_page)
+    except OSError as error:
+        if file is None:
+            raise
+        _say(f"{error.filename}: {error.strerror}")
+        return False
+    return True
 
 
 def _show(server: Server, open_page: bool) -> None:
