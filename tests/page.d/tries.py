@@ -9,6 +9,7 @@ import functools
 import hashlib
 import importlib.machinery
 import io
+import json
 import os
 import re
 import shutil
@@ -41,10 +42,31 @@ def try_made():
 def repacked(text, change=bytes, more=b''):
     """Returns a page whose modules are packed less, with a change of their bytes, and with more behind their ends."""
     def again(found):
-        packed = zlib.compress(change(zlib.decompress(base64.b64decode(found[2]))), 1)
-        return found[1] + base64.b64encode(packed + more).decode()
+        packed = zlib.compress(change(zlib.decompress(bytes_of(found[2]))), 1)
+        letters = base64.b64encode(packed + more).decode()
+        return found[1] + letters.replace('+', '_a').replace('/', '_b').replace('=', '')
 
-    return re.sub(r'(<script type="application/zlib;base64" id="[^"]*">)(.*?)(?=</script>)', again, text)
+    return re.sub(r'(<script type="application/zlib;letters" id="[^"]*">)(.*?)(?=</script>)', again, text)
+
+
+def bytes_of(letters):
+    """The bytes of a packed block, whose _a and _b are + and / of base 64."""
+    code = re.sub('_([ab])', lambda found: '+' if found[1] == 'a' else '/', letters)
+    return base64.b64decode(code + '===')
+
+
+def try_letters():
+    """Modules and ropes have no word in them: letters, digits and _ alone, for a reader who looks for short words."""
+    with open(FILE, encoding='utf-8') as file:
+        text = file.read()
+    ropes = {name: found['rope'] for name, found in json.loads(re.search(r'id="examples">(.*?)</script>', text)[1]).items()}
+    for name, letters in ropes.items():
+        with open(example(name, 'rope'), 'rb') as file:
+            judge(f'the rope of {name}', file.read(), bytes_of(letters))
+    packed = re.findall(r'zlib;letters" id="[^"]*">(.*?)</script>', text)
+    judge('two modules', 2, len(packed))
+    for letters in (*ropes.values(), *packed):
+        judge('letters, digits and _', None, re.search('[^A-Za-z0-9_]', letters))
 
 
 def try_packed():
@@ -56,11 +78,11 @@ def try_packed():
     maker.MADE, maker.DIGEST = (os.path.join(LocalPage.folder(), name) for name in ('made.html', 'made.sha256'))
     maker.page = functools.lru_cache(maker.page)
     text = maker.read(FILE)
-    block = re.search(r'zlib;base64" id="[^"]*">(.*?)</script>', text)[1]
+    block = re.search(r'zlib;letters" id="[^"]*">(.*?)</script>', text)[1]
     cases = (
         ('packed otherwise', repacked(text), 0), ('another byte', repacked(text, lambda data: data[:-1] + bytes([data[-1] ^ 1])), 1),
         ('more behind the end', repacked(text, more=b'x'), 1), ('cut off', text.replace(block, block[:-8]), 1),
-        ('damaged', text.replace(block, block[:500] + 'AAAA' + block[504:]), 1), ('no base 64', text.replace(block, block + '-'), 1),
+        ('damaged', text.replace(block, block[:500] + 'AAAA' + block[504:]), 1), ('no letter', text.replace(block, block + '-'), 1), ('no base 64', text.replace(block, block + '_c'), 1),
     )
     for what, other, wrong in cases:
         check(f'{what}: the page is another one', other != text)
@@ -179,7 +201,7 @@ def try_firefox():
 TRIES = (
     *exercises.TRIES, *twins.TRIES, *flights.TRIES, *source.TRIES, *plotted.TRIES, *randoms.TRIES, *opening.TRIES, *caused.TRIES, web.try_sizes,
     *(listing.TRIES if source.HAS_ASSEMBLER else ()), web.try_changes, web.try_stop, try_session, try_example, try_words, try_old,
-    try_made, try_packed,
+    try_made, try_packed, try_letters,
 )
 
 

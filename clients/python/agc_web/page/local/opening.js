@@ -2,6 +2,7 @@
 // What is opened: a link's session, the one that this browser keeps, an example, or files that the user chooses or drops.
 
 const EXAMPLES = JSON.parse(dataOf('examples')); // by name {title, about, rope, script, names, watch, guide, instrument, isLesson}
+Object.values(EXAMPLES).forEach((each) => { each.rope = base64In(each.rope); });
 const FIRST = 'verbs';
 const OFFERED = [['descent', ''], ['descent', 'Land with alarm 1202'], ['count-1', '']]; // by the strip: an example, and a guide that is not its first
 const LARGEST_FILE = 4e6; // bytes
