@@ -831,7 +831,7 @@ def _event_of(line: str) -> Event:
 
 
 def _event_after(cycle: int, command: str) -> Event:
-    """The event of a command after which the machine has come to a cycle: a pulse costs one."""
+    """The event of a command after which the machine is at this cycle: a pulse costs one."""
     begun = cycle - 1 if command.startswith("pulse") else cycle
     return Event(begun, f"{begun} {command}")
 
@@ -855,7 +855,7 @@ def _order(place: Place, condition: Optional[str]) -> str:
 
 
 def _step_by_calls(step: str, job: Optional[Place]) -> str:
-    """A step by calls, in the job that a cell tells from others if one is named."""
+    """A step by calls; in the present job alone if a cell is named whose word distinguishes jobs."""
     return step if job is None else f"{step} job {_place(job)}"
 
 

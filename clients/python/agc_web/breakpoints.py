@@ -18,7 +18,7 @@ class Breakpoints:
         return list(self._numbers)
 
     def add(self, text: str) -> None:
-        """Sets a breakpoint; `Refused` if it is none."""
+        """Sets a breakpoint. Raises `Refused` if the console does not take the text."""
         _, number, _ = self._console.say(f"break {text}").lines[0].split(" ", 2)
         self._numbers[text] = int(number)
 

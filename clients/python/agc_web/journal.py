@@ -26,7 +26,7 @@ class Point(NamedTuple):
 
     @property
     def limit(self) -> int:
-        """The limit of a run that stands here. An order that stopped the machine needs one cycle more; a machine that stopped
+        """The limit with which a run ends here. An order that stopped the machine needs one cycle more; a machine that stopped
         at its limit needs none."""
         return max(1, self.cycle + (self.stop not in (None, "Limit")))
 

@@ -35,7 +35,7 @@ class Rewinder:
         self._note()
 
     def restore(self, start: int, events: List[Event], end: int) -> None:
-        """Restores the events from a cycle on, and goes on to the cycle at which the machine stood."""
+        """Restores the events from a cycle on, and runs to the cycle at which the machine was."""
         with self._journal.replay():
             self._back(start, self._journal.events)
             self._replay(events)

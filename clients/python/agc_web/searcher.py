@@ -103,7 +103,7 @@ def checked(texts: List[str]) -> List[str]:
 
 
 def checked_place(text: str) -> str:
-    """Returns a place as the console reads it. Raises `ValueError` for what is none."""
+    """Returns a place as the console reads it. Raises `ValueError` for any other text."""
     text = " ".join(text.split())
     if not text or len(text) > 80 or not text.isascii() or not text.isprintable():
         raise ValueError("a place is a PLACE, `write CCC` or `cell PLACE`")

@@ -20,7 +20,7 @@ MASK = 4  # bytes
 
 
 def accept_key(key: str) -> str:
-    """Returns the answer to a browser's key. Raises ValueError if it is none: sixteen bytes in base 64."""
+    """Returns the answer to a browser's key. Raises ValueError unless the key is sixteen bytes in base 64."""
     try:
         if len(base64.b64decode(key, validate=True)) != 16:
             raise ValueError("a key has sixteen bytes")
