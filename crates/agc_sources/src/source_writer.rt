@@ -7,8 +7,8 @@ use std::io::{self, ErrorKind, Write};
 /// Passes lines on. Behind each one with a place of the listing it writes ` # ` and file, number and text of the source
 /// line.
 #[derive(Drop)]
-pub struct SourceWriter<'a, W> {
-    out: &'a mut W,
+pub struct SourceWriter<W> {
+    out: W,
     form: PrintedLine,
     first: SourceLines,
     second: Option<SourceLines>,
@@ -16,16 +16,16 @@ pub struct SourceWriter<'a, W> {
     line: Vec<u8>,
 }
 
-impl<'a, W: Write> SourceWriter<'a, W> {
+impl<W: Write> SourceWriter<W> {
     /// Creates a writer before `out` for lines of this form, with the source lines of a run and of a second one. Lines of a
     /// second run get none if it has none.
     pub fn new(
         alloc: Global,
-        out: &'a mut W,
+        out: W,
         form: PrintedLine,
         first: SourceLines,
         second: Option<SourceLines>,
-    ) -> SourceWriter<'a, W> {
+    ) -> SourceWriter<W> {
         SourceWriter {
             out,
             form,
@@ -35,50 +35,54 @@ impl<'a, W: Write> SourceWriter<'a, W> {
         }
     }
 
+    /// Returns what it writes to.
+    pub fn into_inner(self) -> W {
+        self.out
+    }
+
     /// Writes the line that is complete, with its source line.
     fn write_line(&mut self) -> io::Result<()> {
+        self.out.write_all(self.line.as_slice())?;
         if let Some(place) = self.form.place_in(self.line.as_slice()) {
             if !self.form.is_of_second(self.line.as_slice()) {
-                push_source(&mut self.line, &self.first, place)?;
+                write_source(&mut self.out, &self.first, place)?;
             } else if let Some(second) = &self.second {
-                push_source(&mut self.line, second, place)?;
+                write_source(&mut self.out, second, place)?;
             }
         }
-        push(&mut self.line, b"\n")?;
-        self.out.write_all(self.line.as_slice())?;
         self.line.clear();
-        Ok(())
+        self.out.write_all(b"\n")
+    }
+
+    fn keep(&mut self, part: &[u8]) -> io::Result<()> {
+        match self.line.extend_from_slice(part) {
+            Ok(()) => Ok(()),
+            Err(_) => Err(io::Error::from(ErrorKind::OutOfMemory)),
+        }
     }
 }
 
-/// Appends the source line of a place, if the listing has one.
-fn push_source(line: &mut Vec<u8>, lines: &SourceLines, place: u32) -> io::Result<()> {
+/// Writes the source line of a place, if the listing has one.
+fn write_source<W: Write>(out: &mut W, lines: &SourceLines, place: u32) -> io::Result<()> {
     match lines.line_at(place) {
         Some(source) => {
-            push(line, b" # ")?;
-            push(line, source)
+            out.write_all(b" # ")?;
+            out.write_all(source)
         }
         None => Ok(()),
     }
 }
 
-fn push(line: &mut Vec<u8>, part: &[u8]) -> io::Result<()> {
-    match line.extend_from_slice(part) {
-        Ok(()) => Ok(()),
-        Err(_) => Err(io::Error::from(ErrorKind::OutOfMemory)),
-    }
-}
-
-impl<'a, W: Write> Write for SourceWriter<'a, W> {
+impl<W: Write> Write for SourceWriter<W> {
     fn write(&mut self, buf: &[u8]) -> io::Result<usize> {
         match buf.iter().position(|byte| *byte == b'\n') {
             Some(end) => {
-                push(&mut self.line, &buf[..end])?;
+                self.keep(&buf[..end])?;
                 self.write_line()?;
                 Ok(end + 1)
             }
             None => {
-                push(&mut self.line, buf)?;
+                self.keep(buf)?;
                 Ok(buf.len())
             }
         }

@@ -8,49 +8,63 @@
 mod source_lines;
 
 use agc_analysis::{FAULTY, Streams, answer, last_cycle};
-use agc_io::{Ticker, hold_closed_streams};
+use agc_cli::ArgsFault;
+use agc_io::{ProgressLine, Ticker, hold_closed_streams};
 use agc_sources::SourceWriter;
-use agc_study_args::NAME;
+use agc_study_args::{Args, NAME};
 use agc_study_cli::parse_env;
 use source_lines::{Sources, sources_of};
+use std::io::Write;
 use std::process::ExitCode;
+use std::rt::Files;
 
 fn main(rt: HostRuntime) -> ExitCode {
     let _stand_ins = hold_closed_streams(&rt);
     let args = parse_env(&rt);
-    let progress = Ticker::new(&rt, rt.stderr(), NAME, last_cycle(&args));
-    let (err, remarks) = (rt.stderr(), rt.stderr());
-    let status = match sources_of(&rt, &args, &mut rt.stderr()) {
-        Ok(None) => {
-            let out = rt.stdout();
-            let mut io = Streams {
-                out,
-                err,
-                remarks,
-                progress,
-            };
-            answer(&rt, args, &mut io)
-        }
-        Ok(
-            Some(
-                Sources {
-                    form,
-                    first,
-                    second,
-                },
-            ),
-        ) => {
-            let mut stdout = rt.stdout();
-            let out = SourceWriter::new(rt.alloc(), &mut stdout, form, first, second);
-            let mut io = Streams {
-                out,
-                err,
-                remarks,
-                progress,
-            };
-            answer(&rt, args, &mut io)
-        }
-        Err(()) => FAULTY,
+    let sources = match sources_of(&rt, &args, &mut rt.stderr()) {
+        Ok(sources) => sources,
+        Err(()) => return ExitCode::from(FAULTY),
+    };
+    let mut io = Streams {
+        out: rt.stdout(),
+        err: rt.stderr(),
+        remarks: rt.stderr(),
+        progress: Ticker::new(&rt, rt.stderr(), NAME, last_cycle(&args)),
+    };
+    let status = match sources {
+        None => answer(&rt, args, &mut io),
+        Some(sources) => answer_with_sources(&rt, args, sources, io),
     };
     ExitCode::from(status)
+}
+
+/// Runs the command, and puts source lines behind the lines of its result.
+fn answer_with_sources<
+    R,
+    W: Write + Drop,
+    E: Write + Drop,
+    N: Write + Drop,
+    P: ProgressLine + Drop,
+>(rt: &R, args: Result<Args, ArgsFault>, sources: Sources, io: Streams<W, E, N, P>) -> u8
+where
+    R: Files + AllocGlobal,
+{
+    let Sources {
+        form,
+        first,
+        second,
+    } = sources;
+    let Streams {
+        out,
+        err,
+        remarks,
+        progress,
+    } = io;
+    let mut listed = Streams {
+        out: SourceWriter::new(rt.alloc(), out, form, first, second),
+        err,
+        remarks,
+        progress,
+    };
+    answer(rt, args, &mut listed)
 }

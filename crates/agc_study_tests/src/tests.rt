@@ -15,7 +15,6 @@ mod progress;
 mod restore;
 mod rope_listing;
 mod source;
-mod sources;
 mod study;
 mod trace;
 mod transcriptions;

@@ -211,9 +211,14 @@ fn a_minus_relay_under_a_plus_sign(rt: HostRuntime) {
         ],
     );
     let mut machine = machine_of(&rt, SIGNS, "", 20);
-    let part = film(rt.alloc(), &mut machine, Span { from: 10, to: 15 }, &mut NoProgress)
-        .ok()
-        .expect(&rt, "memory");
+    let part = film(
+        rt.alloc(),
+        &mut machine,
+        Span { from: 10, to: 15 },
+        &mut NoProgress,
+    )
+    .ok()
+    .expect(&rt, "memory");
     let page = page_of(&rt, 20, &named, &part);
     shows(
         &rt,

@@ -60,7 +60,7 @@ static SERVES: &str = "
 fn tracing(rt: &impl AllocGlobal, limit: u64) -> TraceArgs {
     TraceArgs {
         files: no_files(rt),
-        options: options(limit),
+        options: options(rt, limit),
         selection: between(rt, 0, u64::MAX, None),
         at: Vec::new(rt.alloc()),
         cell: Vec::new(rt.alloc()),
