@@ -242,9 +242,11 @@ def changed_bits(draw):
             sound = draw_rope(draw, [2, 3, 4, 9])
             words = [made(word) for word in sound]
             lines, remarks = repairs(words)
-            judge.judge(f"{change} {n}: repairs", [], lines)
-            if change != "reversed":
-                judge.check(f"{change} {n}: why", OTHER_LAYOUT in remarks)
+            # In a half bank of few words a bit can be the same in all of them by chance: then its words are repaired.
+            if not any(kind == "stuck" for kind, _, _ in patterns.patterns("image", "--form", "parity")):
+                judge.judge(f"{change} {n}: repairs", [], lines)
+                if change != "reversed":
+                    judge.check(f"{change} {n}: why", OTHER_LAYOUT in remarks)
             back = read(run("convert", "image", "--form", "parity", "--bits", change, "--to", "parity")[0])
             judge.check(f"{change} {n}: it comes back", back == sound)
     program = read(run("convert", os.path.join(judge.TOP, "examples/descent/rope"), "--to", "parity")[0])
