@@ -150,7 +150,7 @@ def try_faults(listing, scratch):
 
 def try_source_lines(scratch):
     """Tries all of it."""
-    listing = os.path.join(scratch, 'listing')
+    listing = os.path.join(scratch, 'descent.listing')
     ended = run('weave', os.path.join(DESCENT, 'descent.agc'), '--write-listing', listing)
     judge('weave writes the listing', (0, ''), (ended[0], ended[2]))
     sources = try_commands(listing)
