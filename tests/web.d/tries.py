@@ -1382,7 +1382,7 @@ def try_face():
     """The film's page in its crate is what the files of the face and of the film give."""
     script = os.path.join(TOP, 'clients', 'python', 'agc_web', 'page', 'generate')
     done = subprocess.run([sys.executable, '-B', script, '--check'], capture_output=True, text=True)
-    judge('the constants of the film', (0, '5 passed, 0 failed\n', ''), (done.returncode, done.stdout, done.stderr))
+    judge('the constants of the film', (0, '6 passed, 0 failed\n', ''), (done.returncode, done.stdout, done.stderr))
 
 
 def try_random():
