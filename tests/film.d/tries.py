@@ -34,7 +34,7 @@ WHITE, AMBER, DARK = 'rgb(255, 243, 207)', 'rgb(255, 185, 56)', 'rgb(61, 63, 57)
 GREEN, DARK_GREEN = 'rgb(77, 255, 143)', 'rgb(22, 32, 26)'
 
 # The relay words: each digit's row and side of it, the rows of the sign relays, and the row and bit of each lamp. Channel 11
-# stands for a row 0.
+# stands for a row with the number 0.
 CODES = dict(zip('_0123456789?', (0o00, 0o25, 0o03, 0o31, 0o33, 0o17, 0o36, 0o34, 0o23, 0o35, 0o37, 0o01)))
 DIGIT_ROWS = {'PROG': '11L 11R', 'VERB': '10L 10R', 'NOUN': '9L 9R', 'R1': '8R 7L 7R 6L 6R', 'R2': '5L 5R 4L 4R 3L', 'R3': '3R 2L 2R 1L 1R'}
 SIGN_ROWS = {'R1': {'+': 7, '-': 6}, 'R2': {'+': 5, '-': 4}, 'R3': {'+': 2, '-': 1}}

@@ -192,7 +192,7 @@ def try_landing():
     judge("title and seconds", ("a test", "seconds"), (axes[0].get_title(), axes[-1].get_xlabel()))
     judge("the error", True, "computed less true, m" in lines)
     words = landing.summary(flight, found).splitlines()
-    # The worst is the state of second 15, beside row 1499 of the truth: 102 - (900 - 1499), -18 - (-10 - 1499) and so on.
+    # The worst is the state of second 15, beside the truth of second 1499: 102 - (900 - 1499), -18 - (-10 - 1499) and so on.
     worst = "altitude 701.0 m, rate 1491.00 m/s, forward 1517.00 m/s, tilt 145.90 degrees"
     judge("the errors in words", f"computed less true, from second 12 on, at most: {worst}", words[1].strip())
     judge("what was taken, in words", "taken at most: 4 core sets, 3 VAC areas; alarms: none", words[2].strip())
