@@ -1,8 +1,8 @@
 // A film of a session: the run of its script, as agc-study's films have it.
 import { Console } from './console.js';
 
-const KEYFRAME_EVERY = 1024; // of so many frames one has all lines
-const BLOCK = 65536; // frames of a block
+const BLOCK = 65536; // writes of a block
+const RELAY_ROWS = 12;
 const PRINTABLE = /[!-;=-[\]-~ ]/; // without < and the backslash
 
 // Writes a name: what could end the block is a backslash and three octal digits.
@@ -11,29 +11,43 @@ function nameOf(text) {
   return bytes.map(([byte, sign]) => (PRINTABLE.test(sign) ? sign : `\\${byte.toString(8).padStart(3, '0')}`)).join('');
 }
 
-// Runs to the stop, and calls `add` with the cycle and the panel's lines at each write that changes the panel.
-async function eachFrame(console, add) {
+// Runs to the stop, and calls `add` with the writes up to each one that changes the panel, as `agc --log` has them.
+async function eachChange(console, add) {
   await console.sayAll(['quiet off', 'break panel']);
+  let writes = [];
   while (console.stop === null) {
-    const [went, panel] = await console.sayAll(['continue within 1000000', 'panel']);
+    const [went] = await console.sayAll(['continue within 1000000']);
+    writes.push(...went.lines.filter((line) => line.startsWith('write ')).map((line) => line.slice('write '.length)));
     if (went.lines.at(-1) === 'hit none') continue;
-    const write = went.lines.findLast((line) => line.startsWith('write '));
-    add(Number(write.split(' ')[1]), panel.lines);
+    add(writes);
+    writes = [];
   }
+}
+
+// Returns the row that a write sets, 0 if it sets none.
+function rowOf(write) {
+  const [, channel, word] = write.split(' ');
+  const row = channel === '010' ? parseInt(word, 8) >> 11 : 0;
+  return row <= RELAY_ROWS ? row : 0;
 }
 
 // Returns the blocks of a film's run, as pages: {title, script, limit} and the files of the session.
 export async function filmOf(module, { title, script, limit, ...files }) {
   const console = await Console.start(module, { ...files, script, names: null, limit });
   const blocks = [[`rope ${nameOf(title)}`, 'script session.script', `limit ${limit}`, 'from 0']];
-  let frames = 0;
-  let shown = [];
-  await eachFrame(console, (cycle, lines) => {
-    if (frames > 0 && frames % BLOCK === 0) blocks.push([]);
-    const isWhole = frames % KEYFRAME_EVERY === 0;
-    blocks.at(-1).push(`frame ${cycle}`, ...lines.filter((line, i) => isWhole || line !== shown[i]));
-    shown = lines;
-    frames += 1;
+  let count = 0;
+  const rows = new Map(); // the word of each row, as a relay that is hidden now may show later
+  await eachChange(console, (writes) => {
+    writes.forEach((write, i) => {
+      const [, , word] = write.split(' ');
+      const row = rowOf(write);
+      const isNew = row > 0 && rows.get(row) !== word;
+      if (row > 0) rows.set(row, word);
+      if (!isNew && i < writes.length - 1) return;
+      if (count > 0 && count % BLOCK === 0) blocks.push([]);
+      blocks.at(-1).push(write);
+      count += 1;
+    });
   });
   const keys = (await console.say('script')).lines.map((line) => line.match(/^(\d+) (key|pro) (\w+|[+-])$/)).filter(Boolean);
   blocks.at(-1).push(...keys.filter(([, cycle]) => Number(cycle) < console.cycle).map(([, cycle, kind, name]) => (
