@@ -12,6 +12,7 @@ import sys
 import time
 
 from judge import AGC, CONSOLE, STUDY, TOP, attempt, depends_on_time, finish, judge, scratch_folder
+from notes import try_notes
 from places import try_places
 from reading import LAMPS, faults_of, wrong_line
 from searches import search
@@ -496,5 +497,6 @@ if len(sys.argv) == 1:
     try_full_breakpoints()
     try_hidden_minus()
     try_places(console, study, top)
+    attempt(try_notes)
     attempt(try_an_hour_back)
 finish()

@@ -1351,6 +1351,39 @@ def try_names_and_counts():
         terminal.close()
 
 
+def try_source_lines():
+    """The source line of each order stands behind it, as far as it fits, and behind what comes next."""
+    source = written("sends.agc", "        SETLOC  4000\n        TCF     SEND\n        SETLOC  5000\nSEND    CA      WORD    # what is sent\n"
+                     "        EXTEND\n        WRITE   10\nIDLE    TCF     IDLE    # for ever \x1b[2J\nWORD    OCT     54171\n")
+    listing, rope = os.path.join(scratch, "sends.listing"), os.path.join(scratch, "sends2.rope")
+    if os.path.exists(listing):
+        os.remove(listing)
+    made = subprocess.run([study, "weave", source, "--write-listing", listing], capture_output=True)
+    with open(rope, "wb") as file:
+        file.write(made.stdout)
+    terminal = Terminal([rope, "--limit", "20", "--listing", listing, "--speed", "max"], (40, 132))
+    try:
+        terminal.begun()
+        terminal.type("i")
+        terminal.until("no stop", lambda screen: any("- stop" in line for line in boundaries_on(screen)[0]) and rerun_of(screen) is None)
+        terminal.type(" ")
+        for cycle in (0, 1, 3, 4, 6):
+            goes_to(terminal, b"\x7f" if cycle == 0 else ".", cycle)
+        judge("lines with their source", [
+            "0 4000 15000 TCF 5000 | A 000000 L 00000 Q 000000 Z 5001 EB 0 FB 00 # sends.agc 2:         TCF     SEND",
+            "1 5000 35004 CA 5004 | A 154171 L 00000 Q 000000 Z 5002 EB 0 FB 00 # sends.agc 4: SEND    CA      WORD    # what is sent",
+            "3 5001 00006 EXTEND | A 154171 L 00000 Q 000000 Z 5003 EB 0 FB 00 # sends.agc 5:         EXTEND",
+            "4 5002 01010 WRITE 010 > 010 54171 | A 154171 L 00000 Q 000000 Z 5004 EB 0 FB 00 # sends.agc 6:         WRITE   10",
+        ], boundaries_on(terminal.screen)[0])
+        judge("what comes next, with its source", ["5003 15003 TCF 5003 # sends.agc 7: IDLE    TCF     IDLE    # for ever \\033[2J"], boundaries_on(terminal.screen)[1])
+        judge("source lines: the end", (0, []), (terminal.quit()[0], terminal.screen.faults))
+    finally:
+        terminal.close()
+    is_refused("a listing of another rope", [KEYS_ROPE, "--listing", listing], f"{listing}: listing: it is not of this rope: at 02,4000 it has 15000, and the rope 14000")
+    away = os.path.join(scratch, "no.listing")
+    is_refused("no listing", [KEYS_ROPE, "--listing", away], f"{away}: cannot read listing")
+
+
 def finds(terminal, key, cycle, remark):
     """A key searches in time: time stands at a cycle then, and a remark says so."""
     goes_to(terminal, key, cycle)
@@ -1553,7 +1586,7 @@ GROUPS = (
     try_pictures, try_unsaved, try_saving, try_marks, try_waiting_keys, try_fastest, try_remarks, try_full_disk, try_two_sessions,
     try_little_memory, try_last_keys, try_told_names, try_leaving, try_ink, try_no_terminal, try_resizing, try_script,
     try_refusals, try_many_keys, try_going_back, try_a_long_way_back, try_boundaries, try_start, try_speeds,
-    try_slow_speeds, try_names_and_counts, try_searches, try_long_search, try_ending_a_search_back, try_small_stack,
+    try_slow_speeds, try_names_and_counts, try_source_lines, try_searches, try_long_search, try_ending_a_search_back, try_small_stack,
     try_lesson, try_names, try_idleness,
 )
 

@@ -6,9 +6,10 @@ mod saving;
 mod sentences;
 mod words;
 
-use agc_cli::{ArgsFault, exit_usage, parse_env};
+use agc_cli::{exit_usage, parse_env};
 use agc_io::{OK, REFUSED, WRITE_FAILED, hold_closed_streams, status_of};
 use agc_load::LoadFault;
+use agc_notes::{CommandReader, NoteWriter, Notes, QuantityCommands, RopeFile, read_notes};
 use agc_repl::{ReplFault, run_repl};
 use agc_session::{Session, open_session};
 use agc_symbols::{SymbolTable, names_at};
@@ -22,67 +23,144 @@ use words::Console;
 
 fn main(rt: HostRuntime) -> ExitCode {
     let _stand_ins = hold_closed_streams(&rt);
-    let (mut commands, mut out, mut err) = (rt.stdin(), rt.stdout(), rt.stderr());
-    let requested = parse_env(&rt);
-    ExitCode::from(run(&rt, requested, &mut commands, &mut out, &mut err))
+    let mut err = rt.stderr();
+    let status = match parse_env::<Console, _>(&rt) {
+        Ok(requested) => run(&rt, &requested, rt.stdin(), rt.stdout(), &mut err),
+        Err(fault) => exit_usage("agc-console", fault, REFUSED, &mut rt.stdout(), &mut err),
+    };
+    ExitCode::from(status)
 }
 
-/// Runs a session over the two files of the command line, with the commands of `commands`. Answers go to `out`, and
-/// so does the text of help, with status 0. An error goes to `err` in one line, with status 1, and a usage error with
-/// status 2. A failed write gives status 3.
-fn run<R, C: Read, W: Write + IsTerminal, E: Write>(
+/// Runs a session over the two files of the command line, with the commands of `commands`. Answers go to `out`. An error
+/// goes to `err` in one line, with status 1. A failed write gives status 3.
+fn run<R, C: Read + IsTerminal + Drop, W: Write + IsTerminal + Drop, E: Write>(
     rt: &R,
-    requested: Result<Console, ArgsFault>,
-    commands: &mut C,
-    out: &mut W,
+    requested: &Console,
+    commands: C,
+    out: W,
     err: &mut E,
 ) -> u8
 where
     R: Files + AllocGlobal,
 {
-    match requested {
-        Ok(requested) => match open_all(rt, &requested) {
-            Ok((session, names)) => {
-                status_after(answer_all(rt, session, &names, commands, out), err)
-            }
-            Err(error) => status_of(REFUSED, error.write_to(err)),
-        },
-        Err(fault) => exit_usage("agc-console", fault, REFUSED, out, err),
-    }
+    let Opened {
+        session,
+        names,
+        notes,
+    } = match open_all(rt, requested, err) {
+        Ok(opened) => opened,
+        Err(status) => return status,
+    };
+    let ended = if requested.notes.is_empty() && !out.is_terminal() {
+        answer_plainly(rt, session, &names, commands, out)
+    } else {
+        answer_with_notes(
+            rt,
+            Opened {
+                session,
+                names,
+                notes,
+            },
+            commands,
+            out,
+        )
+    };
+    status_after(ended, err)
 }
 
-/// Answers the commands; on a terminal errors are sentences without names.
-fn answer_all<R, C: Read, W: Write + IsTerminal>(
+/// Answers the commands as they are proved.
+fn answer_plainly<R, C: Read + Drop, W: Write + Drop>(
     rt: &R,
     session: Session,
     names: &Option<SymbolTable>,
-    commands: &mut C,
-    out: &mut W,
+    commands: C,
+    out: W,
 ) -> Result<(), ReplFault>
 where
     R: Files + AllocGlobal,
 {
+    let (mut commands, mut out) = (commands, out);
     let mut saver = FileSaver { rt };
-    if out.is_terminal() {
-        let mut shown = Sentences::new(out);
-        run_repl(rt.alloc(), session, names, commands, &mut shown, &mut saver)
-    } else {
-        run_repl(rt.alloc(), session, names, commands, out, &mut saver)
-    }
+    run_repl(
+        rt.alloc(),
+        session,
+        names,
+        &mut commands,
+        &mut out,
+        &mut saver,
+    )
 }
 
-/// Opens the session at the start of time, and the symbols, which are checked first.
-fn open_all<R: Files + AllocGlobal>(
+/// Answers the commands with notes; on a terminal errors are sentences without names.
+fn answer_with_notes<R, C: Read + IsTerminal + Drop, W: Write + IsTerminal + Drop>(
+    rt: &R,
+    opened: Opened,
+    commands: C,
+    out: W,
+) -> Result<(), ReplFault>
+where
+    R: Files + AllocGlobal,
+{
+    let Opened {
+        session,
+        names,
+        notes,
+    } = opened;
+    let Ok(quantities) = QuantityCommands::new(rt.alloc(), &notes) else {
+        return Err(ReplFault::Memory);
+    };
+    let shows_sentences = out.is_terminal();
+    let is_terminal = shows_sentences && commands.is_terminal();
+    let Ok(mut reader) = CommandReader::new(rt.alloc(), commands, quantities, is_terminal) else {
+        return Err(ReplFault::Memory);
+    };
+    let sentences = Sentences::new(out, shows_sentences);
+    let mut writer = NoteWriter::new(rt.alloc(), sentences, notes, &names, is_terminal);
+    let mut saver = FileSaver { rt };
+    run_repl(
+        rt.alloc(),
+        session,
+        &names,
+        &mut reader,
+        &mut writer,
+        &mut saver,
+    )
+}
+
+/// A session at the start of time, with what is known of its program.
+#[derive(Drop)]
+struct Opened {
+    session: Session,
+    names: Option<SymbolTable>,
+    notes: Notes,
+}
+
+/// Opens the session at the start of time, the symbols and the files of notes. The symbols are checked first, then the rope,
+/// the script and the limit, then the listing, the nouns and the quantities. A fault goes to `err`; `Err` has the status.
+fn open_all<R: Files + AllocGlobal, E: Write>(
     rt: &R,
     requested: &Console,
-) -> Result<(Session, Option<SymbolTable>), Error> {
+    err: &mut E,
+) -> Result<Opened, u8> {
     let names = match names_at(rt, &requested.names) {
         Ok(names) => names,
-        Err(refusal) => return Err(Error::Unnamed(refusal)),
+        Err(refusal) => return Err(status_of(REFUSED, Error::Unnamed(refusal).write_to(err))),
     };
-    match open_session(rt, &requested.start) {
-        Ok(session) => Ok((session, names)),
-        Err(refusal) => Err(Error::Refused(refusal)),
+    let session = match open_session(rt, &requested.start) {
+        Ok(session) => session,
+        Err(refusal) => return Err(status_of(REFUSED, Error::Refused(refusal).write_to(err))),
+    };
+    let rope = RopeFile {
+        path: requested.start.rope.as_str(),
+        form: requested.start.form,
+    };
+    match read_notes(rt, &requested.notes, rope, &names, err) {
+        Ok(notes) => Ok(Opened {
+            session,
+            names,
+            notes,
+        }),
+        Err(()) => Err(REFUSED),
     }
 }
 

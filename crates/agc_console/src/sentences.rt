@@ -60,16 +60,19 @@ impl Name {
 
 /// A writer that leaves the name out of each line `error: NAME: SENTENCE`, and passes on everything else.
 #[derive(Drop)]
-pub struct Sentences<'a, W> {
-    out: &'a mut W,
+pub struct Sentences<W> {
+    out: W,
+    /// Whether names are left out; else everything is passed on.
+    drops_names: bool,
     place: Place,
     name: Name,
 }
 
-impl<'a, W: Write> Sentences<'a, W> {
-    pub fn new(out: &'a mut W) -> Sentences<'a, W> {
+impl<W: Write> Sentences<W> {
+    pub fn new(out: W, drops_names: bool) -> Sentences<W> {
         Sentences {
             out,
+            drops_names,
             place: Place::Start(0),
             name: Name::empty(),
         }
@@ -146,8 +149,11 @@ impl<'a, W: Write> Sentences<'a, W> {
     }
 }
 
-impl<'a, W: Write> Write for Sentences<'a, W> {
+impl<W: Write> Write for Sentences<W> {
     fn write(&mut self, buf: &[u8]) -> io::Result<usize> {
+        if !self.drops_names {
+            return self.out.write(buf);
+        }
         match self.place {
             Place::Start(matched) => self.write_start(matched, buf),
             Place::Name => self.take_name(buf),

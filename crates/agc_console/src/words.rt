@@ -1,7 +1,8 @@
 //! The command-line arguments of the console.
 use agc_cli::{Args, ArgsFault, names_option, script_file, text_of, with_parameter};
+use agc_notes::NoteFiles;
 use agc_session::{SessionArgs, session_args, with_session_args};
-use clap::{ArgMatches, Command};
+use clap::{Arg, ArgMatches, Command};
 use std::alloc::{AllocError, Global};
 
 /// The arguments of the console.
@@ -10,6 +11,8 @@ pub struct Console {
     pub start: SessionArgs,
     /// The path of the symbol file, if there is one.
     pub names: Option<String>,
+    /// The paths of the files that notes come from.
+    pub notes: NoteFiles,
 }
 
 impl Args for Console {
@@ -22,12 +25,50 @@ impl Args for Console {
             "Runs a rope by commands: a line each on standard input, answered before the next is read. The command help lists them. Example: printf 'key VERB\\ngo 85333\\npanel\\n' | agc-console ROPE /dev/null",
         );
         let command = with_session_args(alloc, command, script_file(alloc))?;
-        with_parameter(command, names_option(alloc))
+        let command = with_parameter(command, names_option(alloc))?;
+        let command = with_parameter(command, listing_option(alloc))?;
+        let command = with_parameter(command, quantities_option(alloc))?;
+        with_parameter(command, nouns_option(alloc))
     }
 
     fn from_matches(alloc: Global, matches: &ArgMatches<'_>) -> Result<Console, ArgsFault> {
         let start = session_args(alloc, matches)?;
         let names = text_of(alloc, matches, "names")?;
-        Ok(Console { start, names })
+        let notes = NoteFiles {
+            listing: text_of(alloc, matches, "listing")?,
+            quantities: text_of(alloc, matches, "quantities")?,
+            nouns: text_of(alloc, matches, "nouns")?,
+        };
+        Ok(Console {
+            start,
+            names,
+            notes,
+        })
     }
+}
+
+/// Returns the `--listing` option.
+fn listing_option<'a>(alloc: Global) -> Arg<'a> {
+    Arg::new(alloc, "listing")
+        .long("listing")
+        .value_name("FILE")
+        .help("Show source lines, behind #, from this listing: that of weave --write-listing")
+}
+
+/// Returns the `--quantities` option.
+fn quantities_option<'a>(alloc: Global) -> Arg<'a> {
+    Arg::new(alloc, "quantities")
+        .long("quantities")
+        .value_name("FILE")
+        .help(
+            "Show what printed cells are worth, by this file of quantities, and print them by name",
+        )
+}
+
+/// Returns the `--nouns` option.
+fn nouns_option<'a>(alloc: Global) -> Arg<'a> {
+    Arg::new(alloc, "nouns")
+        .long("nouns")
+        .value_name("FILE")
+        .help("Say behind the panel what it shows, by this file of verbs and nouns")
 }

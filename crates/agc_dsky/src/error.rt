@@ -3,6 +3,7 @@ use crate::quoting::write_word;
 use crate::words::Dsky;
 use agc_load::LoadFault;
 use agc_script::FaultKind;
+use agc_sources::SourceLinesFault;
 use agc_store::RopeFault;
 use agc_symbols::{SymbolFileFault, SymbolTableFault};
 use std::alloc::AllocError;
@@ -16,10 +17,13 @@ pub enum Error {
     Refused(LoadFault),
     /// An error in the symbol file.
     Unnamed(SymbolFileFault),
-    /// The rope, the script or the symbol file is a pipe.
+    /// An error in the listing.
+    Listing(SourceLinesFault),
+    /// The rope, the script, the symbol file or the listing is a pipe.
     RopeIsPipe,
     ScriptIsPipe,
     NamesIsPipe,
+    ListingIsPipe,
     /// Standard input is not a terminal, so keys cannot be read one by one.
     InputIsNoTerminal,
     /// Standard output is not a terminal, so nothing can be drawn.
@@ -68,6 +72,8 @@ impl Error {
             | Error::ScriptIsPipe => path_in(&requested.start.script),
             Error::Unnamed(SymbolFileFault::Names(SymbolTableFault::Memory)) => None,
             Error::Unnamed(_) | Error::NamesIsPipe => path_in(&requested.names),
+            Error::Listing(SourceLinesFault::Memory) => None,
+            Error::Listing(_) | Error::ListingIsPipe => path_in(&requested.listing),
             Error::SaveTaken
             | Error::SaveNotMade
             | Error::SaveIsFolder
@@ -119,6 +125,7 @@ impl fmt::Display for Error {
         match *self {
             Error::Refused(refusal) => write!(f, "{refusal}"),
             Error::Unnamed(refusal) => write!(f, "{refusal}"),
+            Error::Listing(fault) => write!(f, "{fault}"),
             _ => f.write_str(self.text()),
         }
     }
@@ -128,8 +135,8 @@ impl Error {
     /// Returns the text of an error that only this program reports.
     fn text(self) -> &'static str {
         match self {
-            Error::Refused(_) | Error::Unnamed(_) => "",
-            Error::RopeIsPipe | Error::ScriptIsPipe | Error::NamesIsPipe => {
+            Error::Refused(_) | Error::Unnamed(_) | Error::Listing(_) => "",
+            Error::RopeIsPipe | Error::ScriptIsPipe | Error::NamesIsPipe | Error::ListingIsPipe => {
                 "a pipe, and no key is heard while it is read; write it to a file first"
             }
             Error::InputIsNoTerminal => {

@@ -12,10 +12,11 @@ mod typed;
 mod words;
 
 use agc_cli::{ArgsFault, exit_usage, parse_env};
-use agc_io::{REFUSED, USAGE, hold_closed_streams, status_of};
+use agc_io::{InputFile, REFUSED, USAGE, hold_closed_streams, status_of};
 use agc_load::LoadFault;
 use agc_panel::WatchSpec;
 use agc_session::open_session;
+use agc_sources::{SourceLines, read_source_lines};
 use agc_symbols::{SymbolTable, names_at};
 use agc_tui::{ColorMode, Operator, Target};
 use ending::Ending;
@@ -135,8 +136,8 @@ fn status_for(error: Error) -> u8 {
     if error.is_misuse() { USAGE } else { REFUSED }
 }
 
-/// Opens the session. Checks the terminal first, then the symbols, the rope, the script, the limit, the tables, and last
-/// the file to save to, so that no file is created without a session.
+/// Opens the session. Checks the terminal first, then the symbols, the rope, the script, the limit, the tables, the listing,
+/// and last the file to save to, so that no file is created without a session.
 fn begin<R>(rt: &R, requested: &Dsky, place: &Place) -> Result<(EventLoop, Ending), Error>
 where
     R: Files + Clock + AllocGlobal,
@@ -145,8 +146,9 @@ where
     let names = names_for(rt, requested)?;
     let operator = operator_for(rt, requested)?;
     let watch = watch_for(requested)?;
+    let sources = sources_for(rt, requested)?;
     let ending = ending_for(rt, requested, place)?;
-    let screen = Screen::new(rt.alloc(), color, names);
+    let screen = Screen::new(rt.alloc(), color, names, sources);
     let event_loop = EventLoop::new(rt, operator, screen, requested.speed, watch);
     Ok((event_loop, ending))
 }
@@ -176,6 +178,25 @@ fn names_for<R: Files + AllocGlobal>(
     match names_at(rt, &requested.names) {
         Ok(names) => Ok(names),
         Err(refusal) => Err(Error::Unnamed(refusal)),
+    }
+}
+
+/// Reads the listing, if there is one, and refuses one of another rope.
+fn sources_for<R: Files + AllocGlobal>(
+    rt: &R,
+    requested: &Dsky,
+) -> Result<Option<SourceLines>, Error> {
+    let Some(path) = &requested.listing else {
+        return Ok(None);
+    };
+    if is_pipe(rt, path.as_str()) {
+        return Err(Error::ListingIsPipe);
+    }
+    let mut listing = InputFile::new(fs::open(rt, path.as_str()));
+    let mut rope = InputFile::new(fs::open(rt, requested.start.rope.as_str()));
+    match read_source_lines(rt.alloc(), &mut listing, requested.start.form, &mut rope) {
+        Ok(lines) => Ok(Some(lines)),
+        Err(fault) => Err(Error::Listing(fault)),
     }
 }
 

@@ -1,5 +1,6 @@
 //! The terminal's screen: what is drawn on it, and its size.
 use agc_panel::WatchSpec;
+use agc_sources::{SourceLines, push_with_sources};
 use agc_symbols::SymbolTable;
 use agc_tui::{
     Button, ColorMode, Operator, Pacer, Size, View, push_inspector, push_tables, render,
@@ -65,6 +66,8 @@ pub struct Screen {
     color: ColorMode,
     /// The names of places, if there are any.
     names: Option<SymbolTable>,
+    /// The source lines that stand behind lines of the inspector, if there is a listing.
+    sources: Option<SourceLines>,
     lines: u16,
     columns: u16,
     drawn: String,
@@ -72,10 +75,16 @@ pub struct Screen {
 
 impl Screen {
     /// Creates a screen with nothing drawn, of the smallest size until the terminal reports its own.
-    pub fn new(alloc: Global, color: ColorMode, names: Option<SymbolTable>) -> Screen {
+    pub fn new(
+        alloc: Global,
+        color: ColorMode,
+        names: Option<SymbolTable>,
+        sources: Option<SourceLines>,
+    ) -> Screen {
         Screen {
             color,
             names,
+            sources,
             lines: SMALL_LINES,
             columns: COLUMNS,
             drawn: String::new(alloc),
@@ -185,7 +194,10 @@ impl Screen {
             let (history, session) = (operator.history(), operator.session());
             push_inspector(alloc, &mut inspector, &self.names, history, most, session)?;
         }
-        Ok(inspector)
+        match &self.sources {
+            Some(sources) => with_sources(alloc, inspector.as_str(), sources),
+            None => Ok(inspector),
+        }
     }
 
     /// Returns how the picture is drawn.
@@ -330,4 +342,15 @@ fn push_time(
         write!(frame, "  KEYS WAITING {waiting}")?;
     }
     Ok(())
+}
+
+/// Returns the inspector's lines with the source lines of their places.
+fn with_sources(
+    alloc: Global,
+    inspector: &str,
+    sources: &SourceLines,
+) -> Result<String, AllocError> {
+    let mut text = String::new(alloc);
+    push_with_sources(&mut text, inspector, sources)?;
+    Ok(text)
 }

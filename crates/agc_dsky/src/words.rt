@@ -18,6 +18,8 @@ pub struct Dsky {
     pub watch: Option<String>,
     /// The path of the symbol file, if there is one.
     pub names: Option<String>,
+    /// The path of the listing whose lines the inspector shows, if there is one.
+    pub listing: Option<String>,
 }
 
 /// The names of the speeds.
@@ -40,6 +42,7 @@ impl Args for Dsky {
             "Show names of places for i from this file: a line for each, PLACE NAME",
         );
         let command = with_parameter(command, names)?;
+        let command = with_parameter(command, listing_option(alloc))?;
         with_parameter(command, force_option(alloc))
     }
 
@@ -51,6 +54,7 @@ impl Args for Dsky {
             force: matches.get_flag("force"),
             watch: text_of(alloc, matches, "watch")?,
             names: text_of(alloc, matches, "names")?,
+            listing: text_of(alloc, matches, "listing")?,
         })
     }
 }
@@ -75,6 +79,13 @@ fn save_option<'a>(alloc: Global) -> Arg<'a> {
     Arg::new(alloc, "save").long("save").value_name("FILE").help(
         "Save the script of the session to this new file, at the end and when you type s",
     )
+}
+
+fn listing_option<'a>(alloc: Global) -> Arg<'a> {
+    Arg::new(alloc, "listing")
+        .long("listing")
+        .value_name("FILE")
+        .help("Show source lines for i, behind #, from this listing: that of weave --write-listing")
 }
 
 fn force_option<'a>(alloc: Global) -> Arg<'a> {

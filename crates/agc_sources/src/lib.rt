@@ -6,9 +6,11 @@ mod fault;
 mod listing;
 mod printed_place;
 mod source_lines;
+mod source_text;
 mod source_writer;
 
 pub use fault::{Apart, SourceLinesFault};
 pub use printed_place::PrintedLine;
 pub use source_lines::{SourceLines, read_source_lines};
+pub use source_text::push_with_sources;
 pub use source_writer::SourceWriter;

@@ -23,7 +23,7 @@ pub enum PrintedLine {
 
 impl PrintedLine {
     /// Returns the place in the rope that a line has: 2000 octal times the bank, plus the offset.
-    pub(crate) fn place_in(self, line: &[u8]) -> Option<u32> {
+    pub fn place_in(self, line: &[u8]) -> Option<u32> {
         match self {
             PrintedLine::Trace => traced_place(line),
             PrintedLine::Profile => counted_place(line),
