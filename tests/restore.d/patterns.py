@@ -330,6 +330,54 @@ def columns_apart(draw):
         judge.check(f"columns apart {n}: some", stuck[0] == 0 and stuck[1].count(b"\n") > 300)
 
 
+def by_chance(draw):
+    """In a rope of another layout, a half bank of few words in which a bit is the same in all words: it is not suspected."""
+    for n in range(4):
+        sound = draw_rope(draw, [4, 9, 20], 700)
+        bit, first = draw.randrange(1, 16), 9 * BANK + HALF
+        few = [word for word in map(with_parity, draw.sample(range(1, 0o77777), 200)) if not word >> bit & 1][:30]
+        sound[first:first + HALF] = few + [0] * (HALF - len(few))
+        judge_unsuspected(f"by chance {n}", [word ^ 0xFFFE for word in sound], range(first, first + len(few)))
+        judge.check(f"by chance {n}: another layout", "the file has another layout, or is not a rope (likely)"
+                    in run("check", "image", "--form", "parity")[1].decode())
+
+
+def judge_unsuspected(what, words, wrong):
+    """Judges that no bit is named as stuck, and that `repair` repairs no word, but with `--stuck` these."""
+    write("image", words)
+    judge.judge(f"{what}: no pattern", [], [kind for kind, _, _ in patterns("image", "--form", "parity") if kind == "stuck"])
+    if os.path.exists("unsuspected.html"):
+        os.remove("unsuspected.html")
+    status = run("check", "image", "--form", "parity", "--report", "unsuspected.html")[0]
+    with open("unsuspected.html", encoding="ascii") as page:
+        judge.judge(f"{what}: status, and whether the page names one", (1, False), (status, "stuck" in page.read()))
+    status, out, remarks = run("repair", "image", "--form", "parity")
+    judge.judge(f"{what}: no repair", (2, b""), (status, out))
+    judge.check(f"{what}: why", "more than one word in ten has wrong parity" in remarks)
+    lines = run("repair", "image", "--form", "parity", "--stuck")[1].decode().splitlines()
+    judge.judge(f"{what}: repairs with --stuck", [place_text(at) for at in wrong], [line[:7] for line in lines])
+
+
+def more_than_half(draw):
+    """A stuck bit is suspected exactly if more than half of all words with wrong parity are where it is stuck."""
+    for n in range(4):
+        sound = draw_rope(draw, [9, 20, 21], 900)
+        words = list(sound)
+        stick(words, 1 + draw.randrange(15), n % 2, 9 * BANK, HALF)
+        wrong = [at for at in range(9 * BANK, 9 * BANK + HALF) if is_even(words[at])]
+        turned = draw.sample([at for at in range(20 * BANK, 22 * BANK) if sound[at]], len(wrong))
+        for at in turned:
+            bit = draw.randrange(16)
+            words[at] ^= 1 << bit if words[at] != 1 << bit else 2 << bit
+        judge_unsuspected(f"half of the wrong words {n}", words, wrong)
+        words[turned[0]] = sound[turned[0]]
+        write("image", words)
+        kinds = [kind for kind, _, _ in patterns("image", "--form", "parity")]
+        judge.judge(f"more than half {n}", ["stuck"], kinds)
+        lines = run("repair", "image", "--form", "parity")[1].decode().splitlines()
+        judge.judge(f"more than half {n}: repairs", [place_text(at) for at in wrong], [line[:7] for line in lines])
+
+
 # Bits and places
 
 CHANGES = {
@@ -417,4 +465,5 @@ def sound_ropes(draw):
 
 
 GROUPS = (stuck_parts, few_words, exchanged, left_out, module_alone, twice, missing, one_wrong_bit, alone_in_a_file,
-          wrong_first_word, filled_with_ones, zero_first, columns_apart, changed_words, one_place, sound_ropes)
+          wrong_first_word, filled_with_ones, zero_first, columns_apart, by_chance, more_than_half, changed_words, one_place,
+          sound_ropes)

@@ -10,6 +10,7 @@ import re
 import subprocess
 
 import banks
+import dumps
 import judge
 import merging
 import pages
@@ -242,11 +243,9 @@ def changed_bits(draw):
             sound = draw_rope(draw, [2, 3, 4, 9])
             words = [made(word) for word in sound]
             lines, remarks = repairs(words)
-            # In a half bank of few words a bit can be the same in all of them by chance: then its words are repaired.
-            if not any(kind == "stuck" for kind, _, _ in patterns.patterns("image", "--form", "parity")):
-                judge.judge(f"{change} {n}: repairs", [], lines)
-                if change != "reversed":
-                    judge.check(f"{change} {n}: why", OTHER_LAYOUT in remarks)
+            judge.judge(f"{change} {n}: repairs", [], lines)
+            if change != "reversed":
+                judge.check(f"{change} {n}: why", OTHER_LAYOUT in remarks)
             back = read(run("convert", "image", "--form", "parity", "--bits", change, "--to", "parity")[0])
             judge.check(f"{change} {n}: it comes back", back == sound)
     program = read(run("convert", os.path.join(judge.TOP, "examples/descent/rope"), "--to", "parity")[0])
@@ -364,7 +363,7 @@ def main():
     draw = random.Random(int(os.environ.get("RESTORE_SEED", "69")))
     for group in (single_words, two_that_fit, sums_unknown, stuck_columns, changed_bits, layouts, modules,
                   moved_modules, repeated_code, parity_bits, sound_ropes, *merging.GROUPS, *sums.GROUPS, *patterns.GROUPS, *banks.GROUPS,
-                  *slips.GROUPS, merging.five_commands, *pages.GROUPS):
+                  *slips.GROUPS, *dumps.GROUPS, merging.five_commands, *pages.GROUPS):
         judge.attempt(group, draw)
     judge.finish()
 

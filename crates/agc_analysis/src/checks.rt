@@ -10,6 +10,7 @@ use crate::fault::AnalysisFault;
 use crate::rope_bytes::read_banks;
 use agc_asm::{check_listing, erase_remarks, line_remarks};
 use agc_check::{check, check_keys, check_rope, may_be_modules};
+use agc_dump::looks_like_numbers;
 use agc_io::{KEY_BYTES, ROPE_BYTES, ReadError, TEXT_BYTES, read_limited};
 use agc_listing::Report;
 use agc_load::LoadFault;
@@ -18,6 +19,10 @@ use agc_study_args::RunInputs;
 use agc_text::push_damage;
 use std::alloc::{AllocError, Global};
 use std::io::Read;
+
+/// What `check` says of a rope file that is plainly a text.
+const TEXT_OF_NUMBERS: &str =
+    "    this looks like a text of numbers: convert --from-text makes a rope file from it (likely)\n";
 
 /// Checks a rope file and a script file and returns the report.
 pub fn check_files<R: Read>(
@@ -101,7 +106,10 @@ fn texts_on_rope(
     is_placed: bool,
     file: Vec<u8>,
 ) -> Result<CheckedRope, AllocError> {
-    let holdings = check_rope(alloc, form, file.as_slice())?;
+    let mut holdings = check_rope(alloc, form, file.as_slice())?;
+    if looks_like_numbers(file.as_slice()) {
+        holdings.text.push_str(TEXT_OF_NUMBERS)?;
+    }
     let mut findings = String::new(alloc);
     push_damage(alloc, &mut findings, form, is_placed, file.as_slice())?;
     Ok(CheckedRope {

@@ -3,7 +3,7 @@ ghost use Rattle.std.specs.Prelude.{◌≡◌, ◌≢◌, ◌%◌, length};
 ghost use Rattle.agc_analysis.specs.Ended.{EndsWith};
 
 use crate::fault::AnalysisFault;
-use crate::rope_bytes::{converted_rope, patched_rope, read_banks};
+use crate::rope_bytes::{WrittenRope, patched_rope, read_banks, written_rope};
 use crate::streams::Streams;
 use agc_check::{
     BadWord, BitChange, Damage, FileRepairs, MOST_REPAIRED, bad_words, damaged_store, file_repairs,
@@ -12,7 +12,7 @@ use agc_check::{
 use agc_io::{OK, ROPE_BYTES, TEXT_BYTES, status_of, write_in_full};
 use agc_listing::push_rope_place;
 use agc_load::LoadFault;
-use agc_mend::{ColumnRepairs, repairs_of_columns};
+use agc_mend::{ColumnRepairs, explain_most, repairs_of_columns};
 use agc_store::RopeForm;
 use agc_store::place::FIXED_BANKS;
 use agc_study_args::{ConvertArgs, ConvertedRope, PatchArgs, RepairArgs, SumsArgs, open_file};
@@ -39,16 +39,28 @@ where
     ensures ended { EndsWith W.contents E.contents result io.old io.new }
     ensures faulty { result ≢ 1 }
 {
-    let mut rope = open_file(rt, &args.rope, ROPE_BYTES);
-    let status = match converted_rope(rt.alloc(), args, &mut rope) {
+    let most = match args.from_text {
+        Some(_) => TEXT_BYTES,
+        None => ROPE_BYTES,
+    };
+    let mut rope = open_file(rt, &args.rope, most);
+    let status = match written_rope(rt.alloc(), args, &mut rope) {
         Ok(made) => {
-            remark_converted(rt.alloc(), args, &made, &mut io.remarks);
-            status_of(OK, write_in_full(&mut io.out, made.file.as_slice()))
+            remark_converted(rt.alloc(), args, &made.rope, &mut io.remarks);
+            status_of(OK, write_in_full(&mut io.out, bytes_of(&made)))
         }
         Err(fault) => fault.report_to(&mut io.err),
     };
     rope.remark_fault(rt.alloc(), &mut io.remarks);
     status
+}
+
+/// Returns what a conversion writes: the text, or the rope file.
+fn bytes_of(made: &WrittenRope) -> &[u8] {
+    match &made.text {
+        Some(text) => text.as_bytes(),
+        None => made.rope.file.as_slice(),
+    }
 }
 
 /// Reports what a conversion changed.
@@ -145,8 +157,9 @@ struct PrintedRepairs {
     remark: String,
 }
 
-/// Returns the repairs of a rope file in the form with parity: those of words in stuck columns with `--stuck`, or if more words
-/// are wrong than a damage of single words makes, else those of single words.
+/// Returns the repairs of a rope file in the form with parity: those of words in stuck columns with `--stuck`, else those of
+/// single words. If more words are wrong than a damage of single words makes, it returns those of stuck columns if these have
+/// most wrong words, and else refuses the file.
 fn printed_repairs<R: Read>(
     alloc: Global,
     args: &RepairArgs,
@@ -155,7 +168,8 @@ fn printed_repairs<R: Read>(
     let bytes = read_banks(alloc, RopeForm::Parity, args.first_bank, reader)?;
     let file = bytes.as_slice();
     if args.mends_columns {
-        return column_repairs(alloc, args, file);
+        let found = found_columns(alloc, args, file)?;
+        return column_repairs(alloc, found);
     }
     let found = found_repairs(alloc, args, file)?;
     if found.damage != Damage::Layout {
@@ -163,24 +177,29 @@ fn printed_repairs<R: Read>(
         let text = found.text;
         return Ok(PrintedRepairs { text, remark });
     }
-    let printed = column_repairs(alloc, args, file)?;
-    if printed.text.is_empty() {
-        Err(AnalysisFault::OtherLayout)
+    let found = found_columns(alloc, args, file)?;
+    if explain_most(found.repaired, found.wrong) {
+        column_repairs(alloc, found)
     } else {
-        Ok(printed)
+        Err(AnalysisFault::OtherLayout)
     }
 }
 
-/// Returns the repairs of words where a bit is stuck in part of the rope.
-fn column_repairs(
+/// Finds the repairs of words where a bit is stuck in part of the rope.
+fn found_columns(
     alloc: Global,
     args: &RepairArgs,
     file: &[u8],
-) -> Result<PrintedRepairs, AnalysisFault>
+) -> Result<ColumnRepairs, AnalysisFault>
     requires { length file.now % 2 ≡ 0 }
 {
     let found = repairs_of_columns(alloc, file).map_err(no_memory)?;
     refuse_no_parity(args, found.wrong, file)?;
+    Ok(found)
+}
+
+/// Returns the repairs of stuck columns, with their remark.
+fn column_repairs(alloc: Global, found: ColumnRepairs) -> Result<PrintedRepairs, AnalysisFault> {
     let remark = columns_remark(alloc, &found).map_err(no_memory)?;
     let text = found.text;
     Ok(PrintedRepairs { text, remark })

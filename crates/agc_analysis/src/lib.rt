@@ -18,6 +18,7 @@ mod cmd_uplink;
 mod cmd_weave;
 mod cmd_words;
 mod compares;
+mod convert_fault;
 mod counts;
 mod fault;
 mod film_script;

@@ -2,6 +2,7 @@
 ghost use Rattle.std.specs.Prelude.{◌≡◌, ◌<◌, ◌≤◌, ◌*◌, ◌%◌, IfOk, length};
 ghost use Rattle.agc_store.specs.Places.{fixed_words};
 
+use crate::convert_fault::ConvertFault;
 use crate::fault::AnalysisFault;
 use crate::full_list::full_list;
 use crate::ropes::{ListedRope, listed_rope};
@@ -10,13 +11,14 @@ use agc_check::{
     apply_patch, check_word, damaged_store, file_of_words, file_words, mark_bad_words, put_word,
     words_in_banks,
 };
+use agc_dump::{Radix, words_of_text};
 use agc_io::{ROPE_BYTES, ReadError, TEXT_BYTES, read_limited};
 use agc_listing::WeaveFault;
 use agc_load::LoadFault;
 use agc_mend::with_banks;
 use agc_store::place::{FIXED_BANK_SIZE, FIXED_BANKS, FIXED_WORDS};
 use agc_store::{RopeFault, RopeForm, Store};
-use agc_study_args::{ConvertArgs, ConvertedRope, ListArgs, PatchArgs, convert_rope};
+use agc_study_args::{ConvertArgs, ConvertedRope, ListArgs, PatchArgs, convert_rope, dump_text};
 use agc_text::push_bank_changes;
 use agc_trace::LineForm;
 use std::alloc::{AllocError, Global};
@@ -92,14 +94,75 @@ fn file_in_banks(
     }
 }
 
-/// Converts a rope file to another reading.
-pub(crate) fn converted_rope<R: Read>(
+/// A rope file that was converted, and its text if one is wanted.
+#[derive(Drop)]
+pub(crate) struct WrittenRope {
+    pub rope: ConvertedRope,
+    pub text: Option<String>,
+}
+
+/// Converts a rope file, or a text of numbers, to another reading, and the result to a text if one is wanted.
+pub(crate) fn written_rope<R: Read>(
     alloc: Global,
     args: &ConvertArgs,
     reader: &mut R,
-) -> Result<ConvertedRope, AnalysisFault> {
-    let file = read_rope_bytes(alloc, reader)?;
-    convert_rope(alloc, args, file.as_slice()).map_err(refused)
+) -> Result<WrittenRope, ConvertFault> {
+    let file = file_to_convert(alloc, args, reader)?;
+    let rope = match convert_rope(alloc, args, file.as_slice()) {
+        Ok(rope) => rope,
+        Err(fault) => return Err(ConvertFault::Refused(refused(fault))),
+    };
+    let Some(radix) = args.to_text else {
+        return Ok(WrittenRope { rope, text: None });
+    };
+    match dump_text(alloc, args, radix, rope.file.as_slice()) {
+        Ok(text) => Ok(WrittenRope {
+            rope,
+            text: Some(text),
+        }),
+        Err(error) => Err(ConvertFault::Refused(no_memory(error))),
+    }
+}
+
+/// Reads a rope file, or a text of numbers as a rope file.
+fn file_to_convert<R: Read>(
+    alloc: Global,
+    args: &ConvertArgs,
+    reader: &mut R,
+) -> Result<Vec<u8>, ConvertFault> {
+    match args.from_text {
+        None => match read_rope_bytes(alloc, reader) {
+            Ok(file) => Ok(file),
+            Err(fault) => Err(ConvertFault::Refused(fault)),
+        },
+        Some(radix) => read_dump_file(alloc, radix, args.before.order, reader),
+    }
+}
+
+/// Reads a text of numbers as a rope file.
+fn read_dump_file<R: Read>(
+    alloc: Global,
+    radix: Radix,
+    order: RopeForm,
+    reader: &mut R,
+) -> Result<Vec<u8>, ConvertFault> {
+    let text = match read_limited(alloc, reader, TEXT_BYTES) {
+        Ok(text) => text,
+        Err(ReadError::CannotRead(_)) => {
+            return Err(ConvertFault::Refused(AnalysisFault::CannotReadText));
+        }
+        Err(ReadError::Memory) => {
+            return Err(ConvertFault::Refused(AnalysisFault::Refused(LoadFault::Memory)));
+        }
+    };
+    let words = match words_of_text(alloc, radix, order, text.as_slice()) {
+        Ok(words) => words,
+        Err(fault) => return Err(ConvertFault::Text(fault)),
+    };
+    match file_of_words(alloc, words.as_slice()) {
+        Ok(file) => Ok(file),
+        Err(error) => Err(ConvertFault::Refused(no_memory(error))),
+    }
 }
 
 /// A rope file that was patched.

@@ -105,3 +105,7 @@ unfoldable pub column_repairs : List ℕ → List Repair
 column_repairs words =
     let columns = columns_of words in
     map (repair_in_column words columns) (filter (is_in_column words columns) (range_with_len 0 (length words)))
+
+-- Stuck bits are suspected only if they explain more than half of the words with wrong parity.
+abbrev pub explain_most : ℕ → ℕ → Bool
+explain_most explained wrong = nat_lt wrong (2 * explained)

@@ -9,6 +9,7 @@ ghost use Rattle.agc_mend.specs.Columns.{
   column_of,
   column_repairs,
   columns_of,
+  explain_most,
   first_same,
   fresh_in,
   fresh_wrong_in,
@@ -256,4 +257,12 @@ fn repair_in_column(words: &[u16], columns: &[Option<u32>], place: usize) -> Rep
         plausibility: 0,
         sureness: Sureness::Stuck,
     }
+}
+
+/// Returns whether stuck bits may be suspected: of the words with wrong parity in the whole rope, more than half are in stuck
+/// columns. Few words can have a bit that is the same in all of them by chance.
+pub fn explain_most(explained: usize, wrong: usize) -> bool
+    ensures { result ≡ explain_most explained wrong }
+{
+    explained > wrong / 2
 }

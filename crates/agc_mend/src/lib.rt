@@ -8,5 +8,6 @@ mod columns;
 pub use banks::{NO_BANK, with_banks, words_of_banks};
 pub use column_lines::{ColumnRepairs, repairs_of_columns};
 pub use columns::{
-    HALF_BANK, HALF_BANKS, MODULE, column_of, column_repairs, columns_of, used_in, wrong_in,
+    HALF_BANK, HALF_BANKS, MODULE, column_of, column_repairs, columns_of, explain_most, used_in,
+    wrong_in,
 };

@@ -1,5 +1,6 @@
 //! The parsed arguments of `agc-study`, one struct for each subcommand.
 use agc_check::{BitChange, Reading};
+use agc_dump::Radix;
 use agc_load::RunFiles;
 use agc_store::RopeForm;
 use agc_trace::{DiffBy, Layout, Notation, Selection, Span};
@@ -280,6 +281,10 @@ pub struct ConvertArgs {
     pub banks: Vec<u8>,
     /// Whether all words whose parity bits were made right are printed, not only twenty (`--all`).
     pub shows_all: bool,
+    /// How the words of the file are written, if it is a text (`--from-text`).
+    pub from_text: Option<Radix>,
+    /// How the words of the result are written, if it is a text (`--to-text`).
+    pub to_text: Option<Radix>,
 }
 
 /// Where the words of a file are.

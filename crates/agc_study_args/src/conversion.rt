@@ -7,6 +7,7 @@ use agc_check::{
     BadWord, BitChange, Dump, ParityBit, Reading, bad_words, convert, file_of_words, file_words,
     right_words, undo_bit_change, words_in_banks,
 };
+use agc_dump::{DumpLayout, Radix, push_dump};
 use agc_mend::{NO_BANK, words_of_banks};
 use agc_store::place::{FIXED_BANK_SIZE, FIXED_BANKS, FIXED_WORDS, bank_of, offset_of};
 use agc_store::{RopeFault, RopeForm, index_in_file};
@@ -57,6 +58,47 @@ pub fn convert_rope(
         wrong,
         dropped,
     })
+}
+
+/// Returns a rope file that was converted as a text of numbers.
+pub fn dump_text(
+    alloc: Global,
+    args: &ConvertArgs,
+    radix: Radix,
+    file: &[u8],
+) -> Result<String, AllocError> {
+    let words = file_words(alloc, file)?;
+    let words = printed_words(alloc, args, radix, words)?;
+    let (_before, after) = readings_of(args);
+    let mut banks: &[u8] = &[];
+    if args.banks.len() < usize::from(FIXED_BANKS) {
+        banks = args.banks.as_slice();
+    }
+    let layout = DumpLayout {
+        order: after.order,
+        banks,
+        has_parity: after.parity != ParityBit::Unused,
+    };
+    let mut text = String::new(alloc);
+    push_dump(&mut text, radix, layout, words.as_slice())?;
+    Ok(text)
+}
+
+/// Returns the words of a file for a text. Behind an octal word stands its parity bit, so that bit is the last one here.
+fn printed_words(
+    alloc: Global,
+    args: &ConvertArgs,
+    radix: Radix,
+    words: Vec<u16>,
+) -> Result<Vec<u16>, AllocError> {
+    if radix == Radix::Hex || args.after.parity != ParityBit::First {
+        return Ok(words);
+    }
+    words
+        .as_slice()
+        .iter()
+        .map(|word| *word << 1 | *word >> 15)
+        .collect(alloc)
 }
 
 /// Returns the word that `--moved` leaves out, if it is not 0.

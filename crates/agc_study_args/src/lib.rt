@@ -19,7 +19,7 @@ pub use args::{
     ProfileArgs, RepairArgs, ReportArgs, RunOptions, SampleArgs, SampleTimes, SumsArgs, TraceArgs,
     UplinkArgs, WeaveArgs, WordsArgs,
 };
-pub use conversion::{ConvertedRope, convert_rope, read_dump};
+pub use conversion::{ConvertedRope, convert_rope, dump_text, read_dump};
 pub use laws::{a_listed_operand_is_addressed, a_run_stops_at_the_resolved_location};
 pub use locations::{LocationOption, resolve_at, resolve_locations};
 pub use named_list::list_with_names;

@@ -1,7 +1,7 @@
 //! The `clap` definition of the command line: the subcommands with their files and options.
 use crate::arg_list::{ArgList, Subcommands, flag, named, option, repeated};
 use crate::merge::{DUMP_CHANGES, DUMP_READINGS};
-use crate::restore::{CHANGES, MOVES, READINGS};
+use crate::restore::{CHANGES, MOVES, RADICES, READINGS};
 use agc_cli::{
     FORMS, form_option, limit_option, names_option, rope_file, script_file, until_option,
     watch_option,
@@ -311,6 +311,11 @@ impl<'a> Subcommands<'a> {
                 "Layout of the rope file: classic and plain have no parity bit, first is before the word",
             )
             .reading_option("to", "Layout of the result")
+            .radix_option(
+                "from-text",
+                "ROPE is a text of numbers, one for each word; lines may begin with addresses, and # or ; begins a comment",
+            )
+            .radix_option("to-text", "Write a text of numbers, a line for eight words")
             .flag("swap", "Exchange the two bytes of each word first")
             .bits_option()
             .moved_option()
@@ -488,6 +493,12 @@ impl<'a> ArgList<'a> {
             "All words of the file are one place on, or back: put them into their places first",
         )
         .value_parser(MOVES.as_slice());
+        self.with(arg)
+    }
+
+    /// Adds an option for a text of numbers.
+    fn radix_option(self, name: &'a str, help: &'a str) -> ArgList<'a> {
+        let arg = option(self.alloc, name, "RADIX", help).value_parser(RADICES.as_slice());
         self.with(arg)
     }
 

@@ -4,6 +4,7 @@ use crate::runs::other_form_of;
 use crate::values::{push, refused};
 use agc_check::{BitChange, ParityBit, Reading};
 use agc_cli::{ArgsFault, form_of, number_of, path_of, text_of};
+use agc_dump::Radix;
 use agc_store::RopeForm;
 use agc_study_args::{Args, ConvertArgs, Moved, PatchArgs, RepairArgs, SumsArgs, WordsArgs};
 use agc_word::read_octal;
@@ -26,6 +27,9 @@ pub(crate) static CHANGES: [&str; 3] = ["inverted", "word-inverted", "reversed"]
 /// The moves of all words that `convert` undoes.
 pub(crate) static MOVES: [&str; 2] = ["on", "back"];
 
+/// The texts of numbers that `convert` reads and writes.
+pub(crate) static RADICES: [&str; 2] = ["octal", "hex"];
+
 /// The most repairs of a word: it has sixteen bits.
 const MOST_REPAIRS: u64 = 16;
 
@@ -40,7 +44,18 @@ pub(crate) fn convert_args(alloc: Global, given: &ArgMatches<'_>) -> Result<Args
         moved: moved_of(given.get_str("moved")),
         banks: banks_of(alloc, given, true)?,
         shows_all: given.get_flag("all"),
+        from_text: radix_of(given.get_str("from-text")),
+        to_text: radix_of(given.get_str("to-text")),
     }))
+}
+
+/// Returns the radix of a name.
+fn radix_of(name: Option<&str>) -> Option<Radix> {
+    match name {
+        Some("octal") => Some(Radix::Octal),
+        Some("hex") => Some(Radix::Hex),
+        _ => None,
+    }
 }
 
 /// Returns the change of bits of a name.

@@ -1,6 +1,8 @@
 //! Reports bits that are stuck in part of a rope.
 use agc_listing::push_rope_place;
-use agc_mend::{HALF_BANK, HALF_BANKS, MODULE, column_of, columns_of, used_in, wrong_in};
+use agc_mend::{
+    HALF_BANK, HALF_BANKS, MODULE, column_of, columns_of, explain_most, used_in, wrong_in,
+};
 use agc_store::place::FIXED_WORDS;
 use std::alloc::{AllocError, Global};
 
@@ -12,13 +14,18 @@ struct Part {
     bit: u32,
 }
 
-/// Appends the bits that are stuck, each with its part of the rope. `bits` has sixteen bits for each place.
+/// Appends the bits that are stuck, each with its part of the rope, if they explain most words with wrong parity. `bits` has
+/// sixteen bits for each place.
 pub(crate) fn push_stuck_columns(
     alloc: Global,
     text: &mut String,
     bits: &[u16],
 ) -> Result<(), AllocError> {
     let columns = columns_of(alloc, bits)?;
+    let wrong = wrong_in(bits, 0, FIXED_WORDS as usize);
+    if !explain_most(wrong_in_columns(bits, columns.as_slice()), wrong) {
+        return Ok(());
+    }
     let mut half = 0usize;
     for _ in 0..HALF_BANKS {
         if half >= HALF_BANKS {
@@ -34,6 +41,18 @@ pub(crate) fn push_stuck_columns(
         };
     }
     Ok(())
+}
+
+/// Returns how many words with wrong parity are in half banks with a stuck bit.
+fn wrong_in_columns(bits: &[u16], columns: &[Option<u32>]) -> usize {
+    let mut count = 0usize;
+    for half in 0..HALF_BANKS {
+        let first = half.saturating_mul(HALF_BANK);
+        if column_of(columns, first).is_some() {
+            count = count.saturating_add(wrong_in(bits, first, HALF_BANK));
+        }
+    }
+    count
 }
 
 /// Returns how many half banks from one on have the same bit stuck.

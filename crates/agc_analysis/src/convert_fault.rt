@@ -1,0 +1,28 @@
+//! The error that ends `convert` with one line.
+ghost use Rattle.std.specs.Prelude.{◌≡◌, ◌⊎◌};
+
+use crate::fault::{AnalysisFault, FAULTY};
+use agc_dump::DumpFault;
+use agc_io::status_of;
+use std::io::Write;
+
+/// Why `convert` writes nothing.
+#[derive(Clone, Copy, Debug, PartialEq, Eq)]
+pub(crate) enum ConvertFault {
+    /// A fault that other subcommands report too.
+    Refused(AnalysisFault),
+    /// A fault of a text of numbers.
+    Text(DumpFault),
+}
+
+impl ConvertFault {
+    /// Reports this error and returns the exit status: `FAULTY`, or 3 if the line cannot be written.
+    pub(crate) fn report_to<W: Write>(self, err: &mut W) -> u8
+        ensures { (result ≡ 2) ⊎ (result ≡ 3) }
+    {
+        match self {
+            ConvertFault::Refused(fault) => fault.report_to(err),
+            ConvertFault::Text(fault) => status_of(FAULTY, writeln!(err, "agc-study: {fault}")),
+        }
+    }
+}
