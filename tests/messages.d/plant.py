@@ -144,7 +144,7 @@ class Tree:
 
 
 class Stored:
-    """The stored outputs of the examples, of help, and of tests/messages.d."""
+    """The stored outputs of the examples, of help, and of the runs of tests/messages, tests/study and tests/agc."""
 
     def __init__(self, tree):
         self.tree, self.folder, self.all = tree, judge.scratch_folder(), []
@@ -164,19 +164,28 @@ class Stored:
             run.status, run.out, run.err = (0, text, "") if status == "0" else (int(status), "", text)
             self.all.append((run, self.folder))
         for path in sorted((TOP / "tests" / "messages.d").glob("*.runs")):
-            written = {}
-            for run in runs.runs_of(path):
-                run.made(self.folder)
-                written.update(run.files)
-                run.files = dict(written)
-                run.where = f"tests/messages, {run.where}"
-                self.all.append((run, self.folder))
+            self.add_runs(path, self.folder)
+        for judged in ("study", "agc"):
+            for path in sorted((TOP / "tests" / f"{judged}.d").glob("*.runs")):
+                self.add_runs(path, judge.scratch_folder())
+
+    def add_runs(self, path, folder):
+        """Adds the runs of a file, each with all files that were written or made before it."""
+        written = {}
+        for run in runs.runs_of(path):
+            run.made(folder)
+            written.update(run.files)
+            run.files = dict(written)
+            if run.kept():
+                written[run.kept()] = Path(folder, run.kept()).read_bytes()
+            run.where = f"tests/{path.parent.stem}, {run.where}"
+            self.all.append((run, folder))
 
     def catches(self, program, text):
         """The first stored output with a text that is another one now, and whether any has the text."""
         runs.PROGRAMS[program] = str(self.tree.top / program)
         with_text = [(run, folder) for run, folder in self.all if run.line.split()[0] == program and text in run.text()]
-        return next((run.where for run, folder in with_text if run.made(folder) != (run.status, run.out, run.err)), None), bool(with_text)
+        return next((run.where for run, folder in with_text if not run.is_made(folder)), None), bool(with_text)
 
 
 def read(path):

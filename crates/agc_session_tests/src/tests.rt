@@ -1,7 +1,6 @@
 //! Tests of what is typed to and injected into a running machine, worked out by hand.
 mod answer;
 mod back;
-mod breakpoints;
 mod console;
 mod conversation;
 mod operator;

@@ -2,28 +2,24 @@
 ghost use Rattle.std.specs.Prelude.{◌≡◌, false};
 
 mod check;
-mod compare;
 mod count;
+mod dumps;
 mod film;
 mod includes;
 mod jobs;
 mod merging;
 mod misnamed;
 mod names;
-mod page_lines;
 mod progress;
 mod restore;
 mod rope_listing;
-mod source;
 mod study;
 mod trace;
-mod transcriptions;
 
-use agc_asm::assemble;
 use agc_cli::ArgsFault;
 use agc_machine::Machine;
 use agc_script::Script;
-use agc_store::{Rope, RopeForm, Store};
+use agc_store::Rope;
 use agc_study_args::Args;
 use agc_study_cli::parse;
 use agc_symbols::SymbolTable;
@@ -52,28 +48,6 @@ fn rope_of(rt: &(impl AllocGlobal + Abort), listing: &str) -> Rope {
     Rope::read(rt.alloc(), bytes.as_slice())
         .ok()
         .expect(rt, "a rope")
-}
-
-/// Assembles a source into a rope file.
-fn assembled(rt: &(impl AllocGlobal + Abort), form: RopeForm, source: &str) -> Vec<u8> {
-    assemble(rt.alloc(), form, source.as_bytes())
-        .ok()
-        .expect(rt, "a file")
-}
-
-/// Returns the memory of a rope file.
-fn store_of_file(rt: &(impl AllocGlobal + Abort), form: RopeForm, file: &[u8]) -> Store {
-    Store::new(
-        Rope::read_as(rt.alloc(), form, file)
-            .ok()
-            .expect(rt, "a rope"),
-    )
-}
-
-/// Returns the memory of the rope that a source assembles to.
-fn store_of_source(rt: &(impl AllocGlobal + Abort), source: &str) -> Store {
-    let file = assembled(rt, RopeForm::Classic, source);
-    store_of_file(rt, RopeForm::Classic, file.as_slice())
 }
 
 /// Reads a symbol file.
@@ -135,19 +109,9 @@ fn repeated(rt: &(impl AllocGlobal + Abort), byte: u8, times: usize) -> Vec<u8> 
     vec![in rt.alloc(); byte; times].ok().expect(rt, "memory")
 }
 
-/// Joins these texts.
-fn joined(rt: &(impl AllocGlobal + Abort), texts: &[&str]) -> String {
-    texts.concat(rt.alloc()).ok().expect(rt, "memory")
-}
-
 /// Checks that two values are equal, in the named row.
 fn same<T: PartialEq + Debug + Drop>(rt: &impl Abort, reported: T, wanted: T, row: &str) {
     assert_eq!(rt; reported, wanted, "{row}");
-}
-
-/// Checks a condition, in the named row.
-fn holds(rt: &impl Abort, it: bool, row: &str) {
-    assert!(rt; it, "{row}");
 }
 
 /// Checks the lines of a text.

@@ -4,20 +4,6 @@ use agc_store::RopeForm;
 use clap::Command;
 use std::process::Abort;
 
-/// Returns the fault of a command line: `Command`, `Help` or `Memory`, or `Ok`.
-fn outcome(rt: &impl AllocGlobal, words: &[&str]) -> &'static str {
-    let fault = parse_args(rt.alloc(), words).err();
-    fault.as_ref().map_or("Ok", name_of)
-}
-
-fn name_of(fault: &ArgsFault) -> &'static str {
-    match fault {
-        ArgsFault::Command(_) => "Command",
-        ArgsFault::Help(_) => "Help",
-        ArgsFault::Memory => "Memory",
-    }
-}
-
 fn parsed(rt: &(impl AllocGlobal + Abort), words: &[&str]) -> Options {
     parse_args(rt.alloc(), words)
         .ok()
@@ -86,32 +72,4 @@ fn has_all(full: &Options) -> bool {
             .is_some_and(|spec| spec.as_str() == "0,1")
         && full.form == RopeForm::Parity
         && (full.live, full.spacing) == (true, 0)
-}
-
-#[test]
-fn command_line_faults(rt: HostRuntime) {
-    assert_eq!(rt; outcome(&rt, &["agc", "r", "s"]), "Command");
-    assert_eq!(rt; outcome(&rt, &["agc", "--help"]), "Help");
-    assert_eq!(rt; outcome(&rt, &["agc", "-h"]), "Help");
-    assert_eq!(rt; outcome(&rt, &["agc", "r", "s", "--limit", "x"]), "Command");
-    assert_eq!(rt;
-        outcome(&rt, &["agc", "r", "s", "--limit", "1", "--form", "other"]),
-        "Command"
-    );
-    assert_eq!(rt;
-        outcome(&rt, &["agc", "r", "s", "t", "--limit", "1"]),
-        "Command"
-    );
-    assert_eq!(rt;
-        outcome(&rt, &["agc", "r", "s", "--limit", "1", "--log", "--log"]),
-        "Command"
-    );
-    assert_eq!(rt;
-        outcome(&rt, &["agc", "r", "s", "--limit", "18446744073709551616"]),
-        "Command"
-    );
-    assert_eq!(rt;
-        outcome(&rt, &["agc", "r", "s", "--limit", "1", "--spacing", "x"]),
-        "Command"
-    );
 }

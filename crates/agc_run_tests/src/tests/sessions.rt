@@ -1,11 +1,7 @@
-//! Tests whole sessions: the worked runs, every fault in its place, gates that delay a thread, live keys, and streams
-//! that fail.
-mod interrupts;
+//! Tests whole sessions: gates that delay a thread, live keys, and streams that fail. Sessions that need none of these
+//! are runs in `tests/agc.d`.
 mod limits;
 mod live;
-mod memory;
-mod orders;
-mod rows;
 mod streams;
 mod threads;
 mod unread;
@@ -42,13 +38,6 @@ const EDRUPTED: &str = "Edrupt CYCLE 4 WRITES 1\n1 010 00000\n";
 /// The output of the idle loop of ten cycles after `STOP `.
 const IDLED: &str = "Limit CYCLE 10 WRITES 0\n";
 
-/// The rope of a session: the words of a listing, or the bytes of a file.
-#[derive(Clone, Copy)]
-enum GivenRope<'a> {
-    Listing(&'a str),
-    File(&'a [u8]),
-}
-
 /// Returns the bytes of a rope in the parity form, in which banks 00 and 01 come first: TCF 4000 is the word after
 /// their 2048.
 fn parity_rope(rt: &(impl AllocGlobal + Abort)) -> Vec<u8> {
@@ -65,38 +54,33 @@ fn many(rt: &(impl AllocGlobal + Abort), byte: u8, times: usize) -> Vec<u8> {
     vec![in rt.alloc(); byte; times].expect(rt, "memory")
 }
 
-/// A session: the words after `agc rope script`, its rope, and the bytes of its other files.
+/// A session: the words after `agc rope script`, the listing of its rope, and the bytes of its other files.
 #[derive(Clone, Copy)]
 struct Requested<'a> {
     line: &'a str,
-    rope: GivenRope<'a>,
+    listing: &'a str,
     script: &'a [u8],
     keys: &'a [u8],
 }
 
-/// Returns a session on the words of a listing, without live keys.
+/// Returns a session without live keys.
 fn without_keys<'a>(line: &'a str, listing: &'a str, script: &'a [u8]) -> Requested<'a> {
     Requested {
         line,
-        rope: GivenRope::Listing(listing),
+        listing,
         script,
         keys: b"",
     }
 }
 
-/// Returns a session on the bytes of a rope file, without live keys.
-fn on_file<'a>(line: &'a str, file: &'a [u8], script: &'a [u8]) -> Requested<'a> {
+/// Returns a session with live keys and an empty script.
+fn with_keys<'a>(line: &'a str, listing: &'a str, keys: &'a [u8]) -> Requested<'a> {
     Requested {
         line,
-        rope: GivenRope::File(file),
-        script,
-        keys: b"",
+        listing,
+        script: b"",
+        keys,
     }
-}
-
-/// Returns an idle run of ten cycles on a script.
-fn idle_on(script: &[u8]) -> Requested<'_> {
-    without_keys("--limit 10", IDLE, script)
 }
 
 /// The outcome of a session: its status, and what it wrote to each stream.
@@ -123,20 +107,8 @@ fn options(rt: &(impl AllocGlobal + Abort), line: &str) -> Options {
 
 /// Runs a session over memory through a gate.
 fn run_gated<G: Gate + Sync>(rt: &impl Host, requested: Requested<'_>, gate: &G) -> Ended {
-    match requested.rope {
-        GivenRope::Listing(listing) => run_on(rt, requested, file_of(rt, listing).as_slice(), gate),
-        GivenRope::File(file) => run_on(rt, requested, file, gate),
-    }
-}
-
-/// Does the same on the bytes of its rope.
-fn run_on<G: Gate + Sync>(
-    rt: &impl Host,
-    requested: Requested<'_>,
-    mut rope: &[u8],
-    gate: &G,
-) -> Ended {
-    let (mut script, mut keys) = (requested.script, requested.keys);
+    let file = file_of(rt, requested.listing);
+    let (mut rope, mut script, mut keys) = (file.as_slice(), requested.script, requested.keys);
     run_files(rt, requested.line, &mut rope, &mut script, &mut keys, gate)
 }
 
@@ -188,24 +160,6 @@ fn status_of<W: Write, E: Write>(
         out,
         err,
     )
-}
-
-/// Runs a session over memory, and checks its status and what it wrote.
-fn ends(rt: &impl Host, requested: Requested<'_>, status: u8, out: &str, err: &str) {
-    let ended = run_gated(rt, requested, &Open);
-    has_ended(rt, requested.line, &ended, status, out, err);
-}
-
-/// Does the same for a run that stops: checks PROG's digits, the text after `STOP `, and what follows.
-fn stops(rt: &impl Host, requested: Requested<'_>, prog: &str, after: &str) {
-    let out = format!(in rt.alloc(); "PROG {prog}\n{REST}STOP {after}").expect(rt, "memory");
-    ends(rt, requested, OK, out.as_str(), "");
-}
-
-/// Does the same for a session that is rejected with this line.
-fn refuses(rt: &impl Host, requested: Requested<'_>, err: &str) {
-    let err = format!(in rt.alloc(); "agc: {err}\n").expect(rt, "memory");
-    ends(rt, requested, REFUSED, "", err.as_str());
 }
 
 /// Checks the status of a session and what it wrote.

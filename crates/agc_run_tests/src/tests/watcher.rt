@@ -108,11 +108,6 @@ fn priority_of_a_word(rt: HostRuntime) {
 }
 
 #[test]
-fn watch_without_sets(rt: HostRuntime) {
-    has_sets(&rt, &cleared(&rt), "0,0,0,1,0,1,10", "");
-}
-
-#[test]
 fn watch_out_of_erasable(rt: HostRuntime) {
     let core = Some(WatchFault::OutOfErasable { table: Table::Core });
     has_fault(&rt, "7,377,1,1,0,1,0", core);

@@ -1,7 +1,6 @@
-//! Tests words that are text and words that are not, from a list that replaces the system's.
-use agc_cli::{ArgsFault, Options, parse_env};
+//! Tests the words of a command line, from a list that replaces the system's.
+use agc_cli::{Options, parse_env};
 use std::env::FillError;
-use std::process::Abort;
 use std::rt::Env;
 
 /// The words of a command line.
@@ -31,14 +30,6 @@ impl Env for Words<'_> {
     }
 }
 
-/// Returns the error text for these words.
-fn mistake(rt: &(impl AllocGlobal + Abort), words: &[&[u8]]) -> String {
-    match parse_env::<Options, _>(&(Words { words }, rt.alloc())) {
-        Err(ArgsFault::Command(text)) => text,
-        _ => panic!(rt; "no mistake"),
-    }
-}
-
 #[test]
 fn words_that_are_text(rt: HostRuntime) {
     let words = [b"agc".as_slice(), b"r", b"s", b"--limit", b"10"];
@@ -46,21 +37,4 @@ fn words_that_are_text(rt: HostRuntime) {
     let options = options.expect(&rt, "a good command line");
     assert!(rt; options.rope.as_str() == "r" && options.script.as_str() == "s");
     assert_eq!(rt; options.limit, 10);
-}
-
-/// The first word that is not text is named by its number, and the usage follows.
-#[test]
-fn word_that_is_not_text(rt: HostRuntime) {
-    let line = [b"agc".as_slice(), b"r", b"\xff", b"--limit", b"\xc3\x28"];
-    let text = mistake(&rt, &line);
-    assert!(rt;
-        text.as_str()
-            .starts_with("error: word 2 is not text\n\nUsage: agc ")
-    );
-    assert!(rt;
-        text.as_str()
-            .ends_with("\n\nFor more information, try '--help'.\n")
-    );
-    let text = mistake(&rt, &[b"agc".as_slice(), b"--watch", b"\xc3\x28"]);
-    assert!(rt; text.as_str().starts_with("error: word 2 is not text\n"));
 }

@@ -8,7 +8,7 @@ use std::str;
 
 /// Saves no script.
 #[derive(Drop)]
-pub(super) struct NoFiles;
+struct NoFiles;
 
 impl Saver for NoFiles {
     fn save(&mut self, _name: &str, _session: &Session) -> Result<(), SaveFault> {

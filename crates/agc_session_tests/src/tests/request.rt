@@ -1,17 +1,14 @@
-//! Tests how lines are parsed. The commands were worked out by hand from the tables of commands and places.
+//! Tests how lines are parsed. The commands were worked out by hand from the tables of commands and places. Most faults
+//! are in `tests/agc.d`.
 use super::console::{asks, reads, refuses};
 use agc_listing::Location;
 use agc_panel::{Table, WatchFault, WatchSpec};
-use agc_repl::{Command, CommandFault, CommandName, Meant, Rewind};
+use agc_repl::{Command, CommandFault, Rewind};
 use agc_script::{FaultKind, Key, What};
 use agc_session::Condition;
 use agc_symbols::SymbolTable;
 use agc_word::Narrow;
 use std::process::Abort;
-
-fn asks_nothing(rt: &impl Abort, line: &[u8]) {
-    reads(rt, &None, line, Ok(None));
-}
 
 /// Checks that a line runs until a breakpoint, for at most this many cycles.
 fn asks_until(rt: &impl Abort, line: &[u8], what: Condition, within: u64) {
@@ -44,12 +41,6 @@ fn cycles_are_decimal(rt: HostRuntime) {
     asks(&rt, b"step 1000000000000", Command::Step(1_000_000_000_000));
     asks_back(&rt, b"back 0", 0, false);
     asks_back(&rt, b"back list 12", 12, true);
-    refuses(&rt, b"back 1000000000001", CommandFault::BadNumber);
-    refuses(&rt, b"go -1", CommandFault::BadNumber);
-    refuses(&rt, b"go", CommandFault::Usage(CommandName::Go));
-    refuses(&rt, b"go to", CommandFault::Usage(CommandName::Go));
-    refuses(&rt, b"go 5 6", CommandFault::Usage(CommandName::Go));
-    refuses(&rt, b"step 1 2", CommandFault::Usage(CommandName::Step));
 }
 
 #[test]
@@ -85,23 +76,7 @@ fn a_run_goes_until_a_place_a_write_or_a_cell(rt: HostRuntime) {
         Condition::Cell(0o100),
         1_000_000,
     );
-    refuses(&rt, b"until cell 4071", CommandFault::NotErasable);
-    refuses(&rt, b"until 1400", CommandFault::BadPlace);
     asks_until(&rt, b"until write 5", write_to(5), 1_000_000);
-    refuses(&rt, b"until write 4", CommandFault::NoWrites);
-    refuses(&rt, b"until write 1000", CommandFault::NoWrites);
-    refuses(&rt, b"until write 8", CommandFault::NoWrites);
-    refuses(
-        &rt,
-        b"until 4071 within",
-        CommandFault::Usage(CommandName::Until),
-    );
-    refuses(
-        &rt,
-        b"until 4071 for 9",
-        CommandFault::Usage(CommandName::Until),
-    );
-    refuses(&rt, b"until write", CommandFault::Usage(CommandName::Until));
 }
 
 #[test]
@@ -118,31 +93,11 @@ fn events_are_those_of_a_script(rt: HostRuntime) {
             value,
         }),
     );
-    refuses(&rt, b"key verb", CommandFault::UnknownKey(Some(Key::Verb)));
-    refuses(
-        &rt,
-        b"key ENTER",
-        CommandFault::UnknownKey(Some(Key::Enter)),
-    );
-    refuses(&rt, b"key 10", CommandFault::UnknownKey(None));
-    refuses(&rt, b"key proceed", CommandFault::ProKey);
     refuses(
         &rt,
         b"key 1 2",
         CommandFault::BadEvent(FaultKind::UnknownWord),
     );
-    refuses(
-        &rt,
-        b"raise x",
-        CommandFault::BadEvent(FaultKind::BadNumber),
-    );
-    refuses(
-        &rt,
-        b"poke 0 7 1",
-        CommandFault::BadEvent(FaultKind::OutOfRange),
-    );
-    refuses(&rt, b"0 key VERB", CommandFault::UnknownCommand);
-    refuses(&rt, b"every 1 0 9 key VERB", CommandFault::UnknownCommand);
 }
 
 #[test]
@@ -164,9 +119,6 @@ fn cells_end_with_the_memory(rt: HostRuntime) {
             count: 2048,
         },
     );
-    refuses(&rt, b"cell E7,1777 2", CommandFault::BadCount);
-    refuses(&rt, b"cell 5 0", CommandFault::BadCount);
-    refuses(&rt, b"cell", CommandFault::Usage(CommandName::Cell));
     asks(&rt, b"channel 777", Command::Channel(0o777));
 }
 
@@ -182,25 +134,11 @@ fn tables_are_watched_where_they_can_stand(rt: HostRuntime) {
         lst2_offset: 0o10,
     };
     asks(&rt, b"watch 0,154,7,3,0,3,10", Command::Watch(spec));
-    refuses(&rt, b"watch 0,154,7,3,0,3", CommandFault::BadSpec);
     let out = WatchFault::OutOfErasable { table: Table::Core };
-    refuses(&rt, b"watch 8,154,7,3,0,3,10", CommandFault::BadSpec);
     refuses(&rt, b"watch 7,377,7,3,0,3,10", CommandFault::Watch(out));
 }
 
-#[test]
-fn lines_have_120_bytes_of_ascii(rt: HostRuntime) {
-    asks_nothing(&rt, &[b' '; 120]);
-    refuses(&rt, &[b' '; 121], CommandFault::LineTooLong);
-    refuses(&rt, b"# \xC3", CommandFault::NotAscii);
-    asks_nothing(&rt, b"#quit");
-    asks_nothing(&rt, b"");
-    refuses(&rt, b"quit #", CommandFault::Usage(CommandName::Quit));
-    refuses(&rt, b"Quit", CommandFault::UnknownCommand);
-}
-
-/// COUNT is cell 1500 of bank 3, and 02,4071 is 56 words before 02,4161. Cells end at 3777, and the word `A+1` is a
-/// name.
+/// COUNT is cell 1500 of bank 3, and 02,4071 is 56 words before 02,4161. The word `A+1` is a name.
 #[test]
 fn a_name_stands_for_its_place(rt: HostRuntime) {
     let text = b"4071 LOOP\nE3,1500 COUNT\nE7,1777 END\n4100 A\n4200 A+1\n";
@@ -212,33 +150,6 @@ fn a_name_stands_for_its_place(rt: HostRuntime) {
     goes_until(&rt, &names, b"until 4071", 0o4071);
     shows_cells(&rt, &names, b"cell COUNT 2", 0o1500, 2);
     shows_cells(&rt, &names, b"cell END-1", 0o3776, 1);
-    reads(&rt, &names, b"cell END+1", Err(CommandFault::BadPlace));
-    reads(&rt, &names, b"cell LOOP", Err(CommandFault::NotErasable));
-    refuses(&rt, b"until LOOP", CommandFault::BadPlace);
-}
-
-/// An unknown name is answered by the nearest: `CUONT` is two changes from COUNT, and `TINE2` one from TIME2, number 21
-/// of the computer's own. Numbers, words with a comma and words of nine letters are no names.
-#[test]
-fn the_nearest_name_was_meant(rt: HostRuntime) {
-    let text = b"4071 LOOP\nE3,1500 COUNT\nE7,1777 END\n4100 TIMED\n";
-    let names = SymbolTable::read(rt.alloc(), text).ok();
-    meant(&rt, &names, b"until loop", Meant::Symbol(0));
-    meant(&rt, &names, b"break CUONT+2", Meant::Symbol(1));
-    meant(&rt, &names, b"print COUNT2 5", Meant::Symbol(1));
-    meant(&rt, &names, b"watch EDN", Meant::Symbol(2));
-    meant(&rt, &names, b"cell TIME", Meant::Symbol(3));
-    meant(&rt, &names, b"break cell TINE2", Meant::Own(21));
-    meant(&rt, &names, b"until cell NRAD", Meant::Own(34));
-    reads(&rt, &names, b"cell COUNTINGS", Err(CommandFault::BadPlace));
-    reads(&rt, &names, b"cell COUNT,1", Err(CommandFault::BadPlace));
-    reads(&rt, &names, b"cell 9999", Err(CommandFault::BadPlace));
-    refuses(&rt, b"cell TIME", CommandFault::BadPlace);
-}
-
-/// Checks that a line with symbols has an unknown name, and which one was meant.
-fn meant(rt: &impl Abort, names: &Option<SymbolTable>, line: &[u8], name: Meant) {
-    reads(rt, names, line, Err(CommandFault::UnknownName(name)));
 }
 
 /// Checks that a line with symbols runs until the order at a location.

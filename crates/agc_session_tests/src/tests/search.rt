@@ -129,22 +129,6 @@ fn a_key_is_found_back(rt: HostRuntime) {
     finds(&rt, &session, Condition::Boundary, 2, Some(17));
 }
 
-/// Copies are made at 262,144 and 524,288. From 5 on each boundary takes one cycle, so the one with the number 400,000,
-/// counted back over two stretches and a part of the third, begins at 200,000. The panel changes at 3.
-#[test]
-fn stretches_are_searched_together(rt: HostRuntime) {
-    let mut session = session_of(&rt, RELAY_WORD, "", 2_000_000);
-    session.go_to(600_000);
-    finds(&rt, &session, Condition::Boundary, 75_712, Some(524_288));
-    finds(&rt, &session, Condition::Boundary, 75_713, Some(524_287));
-    finds(&rt, &session, Condition::Boundary, 400_000, Some(200_000));
-    finds(&rt, &session, Condition::Boundary, 599_996, Some(3));
-    finds(&rt, &session, Condition::Boundary, 599_999, None);
-    finds(&rt, &session, Condition::Panel, 1, Some(3));
-    finds(&rt, &session, Condition::Panel, 2, None);
-    finds(&rt, &session, order(0o4001), 1, Some(2));
-}
-
 /// Cancels a search that asks more often than this.
 #[derive(Drop)]
 struct CancelAfter {

@@ -62,40 +62,6 @@ fn includes_are_expanded(rt: HostRuntime) {
     assert!(rt; source.origin(8).is_none());
 }
 
-/// Returns the file and the line of a faulty include, and its fault.
-fn found_in(error: &ExpandError) -> Option<(&str, usize, IncludeFault)> {
-    match error {
-        ExpandError::Line { file, line, fault } => Some((file.as_str(), *line, *fault)),
-        _ => None,
-    }
-}
-
-/// Checks at which line of which file a source is refused.
-fn is_refused(
-    rt: &(impl AllocGlobal + Abort),
-    main: &str,
-    file: &str,
-    line: usize,
-    fault: IncludeFault,
-) {
-    let files = &[("A", "a\n$A\n"), ("B", "$C"), ("C", "\n\n$B\n")];
-    let error = expanded(rt, files, main).err().expect(rt, "a fault");
-    assert!(rt; found_in(&error) == Some((file, line, fault)));
-}
-
-/// Each faulty include is reported at its line.
-#[test]
-fn faulty_includes(rt: HostRuntime) {
-    is_refused(&rt, "x\n$\n", "MAIN", 2, IncludeFault::BadName);
-    is_refused(&rt, "$../A\n", "MAIN", 1, IncludeFault::BadName);
-    is_refused(&rt, "$..\n", "MAIN", 1, IncludeFault::BadName);
-    is_refused(&rt, "$\u{e9}\n", "MAIN", 1, IncludeFault::BadName);
-    is_refused(&rt, "\n\n$D\n", "MAIN", 3, IncludeFault::Missing);
-    is_refused(&rt, "$A\n", "A", 2, IncludeFault::Circle);
-    is_refused(&rt, "$MAIN\n", "MAIN", 1, IncludeFault::Circle);
-    is_refused(&rt, "\n$B", "C", 3, IncludeFault::Circle);
-}
-
 /// Only a line that begins with `$` is an include.
 #[test]
 fn lines_of_includes(rt: HostRuntime) {

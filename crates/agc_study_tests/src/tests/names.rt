@@ -1,16 +1,10 @@
-//! Tests symbols of locations, worked out by hand.
-use super::{has_lines, owned, rope_of, same, symbols};
-use agc_cli::ArgsFault;
+//! Tests symbols of locations, worked out by hand. `tests/study` compares what the program prints with names.
+use super::{owned, same, symbols};
 use agc_listing::{Location, LocationRange, RangeFault};
-use agc_store::Store;
-use agc_study_args::{
-    Args, a_listed_operand_is_addressed, list_with_names, resolve_locations, resolve_until,
-};
-use agc_study_cli::parse;
+use agc_study_args::{a_listed_operand_is_addressed, resolve_until};
 use agc_symbols::{
-    ChannelTable, NameFault, SymbolFileFault, SymbolTable, SymbolTableFault, push_channel_line,
-    push_column, push_name_line, push_named, read_names, resolve, resolve_cells, resolve_range,
-    text_with_names,
+    ChannelTable, SymbolTable, push_channel_line, push_name_line, resolve, resolve_cells,
+    resolve_range, text_with_names,
 };
 use std::process::Abort;
 use std::test::Fail;
@@ -19,59 +13,6 @@ static NAMES: &str = "4060 KEYIN # the first\n02,4060 SERVICE\n\nE0,0100\tBEFORE
 
 fn names(rt: &(impl AllocGlobal + Abort)) -> SymbolTable {
     symbols(rt, NAMES)
-}
-
-/// Checks the name of a location.
-fn goes_by(rt: &(impl AllocGlobal + Abort), names: &SymbolTable, at: Location, name: &str) {
-    let mut text = String::new(rt.alloc());
-    push_named(&mut text, names, at).ok().expect(rt, "memory");
-    same(rt, text.as_str(), name, "name");
-}
-
-/// Checks the column of a location.
-fn has_column(rt: &(impl AllocGlobal + Abort), names: &SymbolTable, at: Location, column: &str) {
-    let mut text = String::new(rt.alloc());
-    push_column(&mut text, names, at).ok().expect(rt, "memory");
-    same(rt, text.as_str(), column, "column");
-}
-
-/// 100 octal are 64 words, and bank 03 begins at 6000.
-#[test]
-fn a_place_goes_by_the_nearest_name(rt: HostRuntime) {
-    let names = names(&rt);
-    for (at, name) in [
-        (Location::Fixed(0o4060), "KEYIN"),
-        (Location::Fixed(0o4072), "KEYIN +10"),
-        (Location::Fixed(0o4160), "KEYIN +64"),
-        (Location::Fixed(0o4161), ""),
-        (Location::Fixed(0o4057), ""),
-        (Location::Fixed(0o6000), ""),
-        (Location::Erasable(0o101), "BEFORE +1"),
-    ] {
-        goes_by(&rt, &names, at, name);
-    }
-    has_column(&rt, &names, Location::Fixed(0o4062), "KEYIN +2     ");
-}
-
-#[test]
-fn each_fault_is_reported(rt: HostRuntime) {
-    for (text, line, fault) in [
-        ("4000 A\n\n4001 B # \x07", 3, NameFault::NotText),
-        ("2000 A", 1, NameFault::BadPlace),
-        ("4000", 1, NameFault::BadName),
-        ("4000 NINECHARS", 1, NameFault::BadName),
-        ("4000 A\n4001 B C", 2, NameFault::MoreWords),
-        ("C8 A", 1, NameFault::BadPlace),
-        ("C1000 A", 1, NameFault::BadPlace),
-        ("C15", 1, NameFault::BadName),
-        ("C15 +1", 1, NameFault::BadName),
-        ("4000 A\nC15 B C", 2, NameFault::MoreWords),
-    ] {
-        let mut bytes = text.as_bytes();
-        let refused = read_names(rt.alloc(), &mut bytes).err();
-        let trouble = SymbolTableFault::Line(line, fault);
-        same(&rt, refused, Some(SymbolFileFault::Names(trouble)), text);
-    }
 }
 
 /// A channel is no place, and a place is no channel. The first of two channels with one name counts.
@@ -122,115 +63,8 @@ fn names_stand_beside_places(rt: HostRuntime) {
     assert!(rt; lines.as_slice() == b"E3,1407 COUNT\n02,4071 LOOP\n".as_slice());
 }
 
-static LISTED: &str = "
-4000 34062 CA 4062
-4001 54100 TS 0100
-4002 00006 EXTEND
-4003 01010 WRITE 010
-4004 12000 TCF 2000
-4005 55400 TS 1400
-05,2001 12000 TCF 2000
-05,2002 14060 TCF 4060
-";
-
 static OPERANDS: &str =
     "4060 KEYIN\n0100 RUN\nC010 OUT0\n05,2000 HERE\nE0,1400 FAR\n02,4000 START\n";
-
-/// A name is shown where no bank is in doubt. Bank 02 may run while any bank is in the window, and EB selects cell 1400.
-#[test]
-fn operands_of_a_listing_have_names(rt: HostRuntime) {
-    let names = symbols(&rt, OPERANDS);
-    let (names, _) = names.split(rt.alloc());
-    let channels = ChannelTable::read(rt.alloc(), OPERANDS.as_bytes())
-        .ok()
-        .expect(&rt, "channels");
-    let store = Store::new(rope_of(&rt, LISTED));
-    let text = list_with_names(rt.alloc(), &names, &channels, &store, None)
-        .ok()
-        .expect(&rt, "memory");
-    has_lines(
-        &rt,
-        text.as_str(),
-        &[
-            "02,4000 START        34062 CA KEYIN +2",
-            "02,4001 START +1     54100 TS RUN",
-            "02,4002 START +2     00006 EXTEND",
-            "02,4003 START +3     01010 WRITE OUT0",
-            "02,4004 START +4     12000 TCF 2000",
-            "02,4005 START +5     55400 TS 1400",
-            "05,2001 HERE +1      12000 TCF HERE",
-            "05,2002 HERE +2      14060 TCF KEYIN",
-        ],
-    );
-    a_listed_operand_is_addressed();
-}
-
-/// Returns why `trace` refuses a value with these names; nothing if it does not.
-fn refusal<'x>(rt: &(impl AllocGlobal + Abort), option: &'x str, value: &'x str) -> String {
-    let line = [
-        "agc-study",
-        "trace",
-        "rope",
-        "script",
-        "--limit",
-        "9",
-        option,
-        value,
-    ];
-    let mut args = match parse(rt.alloc(), line.as_slice()) {
-        Ok(Args::Trace(args)) => Some(args),
-        Ok(_other) => None,
-        Err(_why) => None,
-    }
-    .expect(rt, value);
-    let names = SymbolTable::read(rt.alloc(), OPERANDS.as_bytes()).ok();
-    let channels = ChannelTable::read(rt.alloc(), OPERANDS.as_bytes())
-        .ok()
-        .expect(rt, "channels");
-    match resolve_locations(rt.alloc(), &names, &channels, &mut args) {
-        Err(ArgsFault::Command(text)) => text,
-        Err(_other) => String::new(rt.alloc()),
-        Ok(_done) => String::new(rt.alloc()),
-    }
-}
-
-/// The name of a channel is no place, and that of a place no channel.
-#[test]
-fn channels_and_places_are_told_apart(rt: HostRuntime) {
-    for (option, value, why) in [
-        ("--cell", "RUN", ""),
-        ("--cell", "RUN +1", ""),
-        ("--at", "KEYIN -1-KEYIN +2", ""),
-        ("--channel", "OUT0", ""),
-        (
-            "--at",
-            "KEYIN + 1",
-            "error: invalid value 'KEYIN + 1' for '--at <PLACES>': no such place, and no such name in the file of --names\n\nFor more information, try '--help'.\n",
-        ),
-        (
-            "--cell",
-            "OUT0",
-            "error: invalid value 'OUT0' for '--cell <PLACES>': this names a channel: see --channel\n\nFor more information, try '--help'.\n",
-        ),
-        (
-            "--at",
-            "OUT0",
-            "error: invalid value 'OUT0' for '--at <PLACES>': this names a channel: see --channel\n\nFor more information, try '--help'.\n",
-        ),
-        (
-            "--channel",
-            "RUN",
-            "error: invalid value 'RUN' for '--channel <CCC>': this names a place: see --cell and --at\n\nFor more information, try '--help'.\n",
-        ),
-        (
-            "--channel",
-            "1000",
-            "error: invalid value '1000' for '--channel <CCC>': a channel is one to three octal digits, 0 to 777, or a name of --names\n\nFor more information, try '--help'.\n",
-        ),
-    ] {
-        same(&rt, refusal(&rt, option, value).as_str(), why, value);
-    }
-}
 
 /// 10 words are 12 octal. A word that is written as a location is that location, and cells end at 3777.
 #[test]
@@ -394,4 +228,10 @@ fn operands_go_by_name(rt: HostRuntime) {
         let found = names.operand_at(at).map(|near| near.offset);
         same(&rt, found, offset, "operand");
     }
+}
+
+/// The law is a call that does nothing.
+#[test]
+fn laws() {
+    a_listed_operand_is_addressed();
 }

@@ -9,7 +9,7 @@ use agc_check::{
     the_missing_word_makes_the_sum, undo_bit_change, word_sum, words_in_banks,
     words_make_their_file,
 };
-use agc_listing::{LineFault, PlacedWord, WeaveFault};
+use agc_listing::PlacedWord;
 use agc_load::LoadFault;
 use agc_store::{RopeFault, RopeForm, Store};
 use agc_study_args::{RopeRead, read_any_rope};
@@ -158,53 +158,19 @@ fn files_in_other_readings(rt: HostRuntime) {
     converting_there_and_back();
 }
 
+/// In the form with parity a patched word gets its parity bit, and another one keeps its own, right or wrong.
 #[test]
-fn patches(rt: HostRuntime) {
-    let words = [0x7008, 0x1111];
-    let text = b"# two words\n02,4001 00006 EXTEND\n4002 00001\n";
-    let patched = apply_patch(
-        rt.alloc(),
-        RopeForm::Classic,
-        words.as_slice(),
-        text.as_slice(),
-    )
-    .ok()
-    .expect(&rt, "memory");
-    let wanted = [0x7008, 0x000C, 0x0002];
-    same(&rt, patched.as_slice(), wanted.as_slice(), "classic");
+fn a_patch_keeps_other_words(rt: HostRuntime) {
     let patched = apply_patch(
         rt.alloc(),
         RopeForm::Parity,
-        words.as_slice(),
+        [0x7008, 0x1111].as_slice(),
         b"00,2000 00006".as_slice(),
     )
     .ok()
     .expect(&rt, "memory");
     let wanted = [0x000D, 0x1111];
-    same(&rt, patched.as_slice(), wanted.as_slice(), "parity");
-    for (text, fault) in [
-        (
-            "4000 00001\n4001 1\n",
-            WeaveFault::Line(2, LineFault::BadWord),
-        ),
-        (
-            "4000 00001\n4000 00002\n",
-            WeaveFault::Line(2, LineFault::NamedTwice),
-        ),
-        (
-            "44,2000 00001\n",
-            WeaveFault::Line(1, LineFault::BadAddress),
-        ),
-    ] {
-        let reported = apply_patch(
-            rt.alloc(),
-            RopeForm::Classic,
-            words.as_slice(),
-            text.as_bytes(),
-        )
-        .err();
-        same(&rt, reported, Some(fault), text);
-    }
+    same(&rt, patched.as_slice(), wanted.as_slice(), "words");
 }
 
 #[test]

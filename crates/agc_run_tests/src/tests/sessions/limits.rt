@@ -1,33 +1,6 @@
-//! Tests the limits on input files, and long texts.
-use super::streams::{Endless, Source};
+//! Tests files that return one byte a read, and long texts.
+use super::streams::Source;
 use super::*;
-
-#[test]
-fn reading_limits(rt: HostRuntime) {
-    let mut rope = many(&rt, 0, 1_048_576);
-    refuses(&rt, as_rope(rope.as_slice()), "rope: TooLong");
-    rope.push(0).expect(&rt, "memory");
-    refuses(&rt, as_rope(rope.as_slice()), "cannot read rope");
-
-    let mut script = many(&rt, b'\n', 16_777_216);
-    stops(&rt, idle_on(script.as_slice()), "__", IDLED);
-    script.push(b'\n').expect(&rt, "memory");
-    refuses(&rt, idle_on(script.as_slice()), "cannot read script");
-}
-
-/// Returns a run of ten cycles on this rope.
-fn as_rope(rope: &[u8]) -> Requested<'_> {
-    on_file("--limit 10", rope, b"")
-}
-
-/// A rope that fills each read and never ends.
-#[test]
-fn endless_rope(rt: HostRuntime) {
-    let line = "--limit 10";
-    let (mut script, mut keys): (&[u8], &[u8]) = (b"", b"");
-    let ended = run_files(&rt, line, &mut Endless, &mut script, &mut keys, &Open);
-    has_ended(&rt, line, &ended, REFUSED, "", "agc: cannot read rope\n");
-}
 
 /// Files that return one byte a read: 4098 bytes of rope, 5000 of script and 5000 of key text.
 #[test]

@@ -1,115 +1,28 @@
-//! Tests live keys: the key text, its faults, and the printed tape and remaining keys.
-use super::streams::Source;
+//! Tests live keys: the printed tape and remaining keys.
 use super::*;
 use agc_test_support::{KeyRendezvous, Slow};
 
 /// How often the keyboard's gate looks for what must come.
 const TURNS: u32 = 1_000_000;
 
-/// Returns a session with live keys on the relay word.
-fn relayed<'a>(line: &'a str, keys: &'a [u8]) -> Requested<'a> {
-    Requested {
-        line,
-        rope: GivenRope::Listing(RELAY_WORD),
-        script: b"",
-        keys,
-    }
-}
-
-#[test]
-fn live_session(rt: HostRuntime) {
-    let (line, logged) = ("--limit 10 --live", "--limit 10 --log --live");
-    let after = "Limit CYCLE 10 WRITES 1\n3 010 54171\nREST 0\n";
-    stops(&rt, relayed(logged, b""), "12", after);
-    refuses(&rt, relayed(line, b"VERB FOO"), "keys: BadKey");
-    let unspaced = "--limit 10 --live --spacing 0";
-    refuses(&rt, relayed(unspaced, b"VERB"), "spacing");
-    let without_slots = "--limit 10 --live --spacing 0 --slots 0";
-    refuses(&rt, relayed(without_slots, b"VERB"), "slots");
-    let mut spaces = many(&rt, b' ', 65_536);
-    stops(&rt, relayed(logged, spaces.as_slice()), "12", after);
-    spaces.push(b' ').expect(&rt, "memory");
-    refuses(&rt, relayed(line, spaces.as_slice()), "cannot read keys");
-}
-
-/// The key text is checked after the specs and before the slots, and the spacing before the tables.
-#[test]
-fn keys_come_in_their_place(rt: HostRuntime) {
-    refuses_badly(&rt, "--limit 0", b"FOO", "limit: Zero");
-    refuses_badly(&rt, "--limit 1 --until 1", b"FOO", "until: BadSpec");
-    refuses_badly(&rt, "--limit 1", b"FOO", "keys: BadKey");
-    refuses_badly(&rt, "--limit 1", b"", "slots");
-    let line = "--limit 1 --live --spacing 0 --watch 10,0,0,0,0,0,0";
-    refuses(&rt, relayed(line, b""), "spacing");
-    let line = "--limit 1 --live --watch 10,0,0,0,0,0,0";
-    refuses(&rt, relayed(line, b""), "watch: OutOfErasable");
-}
-
-/// Checks which fault is reported if the spacing, the slots and the tables are bad too.
-fn refuses_badly(rt: &impl Host, line: &str, keys: &[u8], err: &str) {
-    let line = format!(in rt.alloc();
-        "{line} --live --spacing 0 --slots 0 --watch 10,0,0,0,0,0,0"
-    ).expect(rt, "memory");
-    refuses(rt, relayed(line.as_str(), keys), err);
-}
-
-/// Spaces, tabs, carriage returns and line feeds separate the names of keys, and nothing else does. A run of one
-/// cycle takes the first of the 18 keys, at its start, or none.
+/// Spaces, tabs, carriage returns and line feeds separate the names of keys. A run of one cycle takes the first of the
+/// 18 keys, at its start, or none.
 #[test]
 fn key_names(rt: HostRuntime) {
     let line = "--limit 1 --live";
     let keys = b"0 1\t2\r3\n4 5  6\t\t7\r\n8 9 VERB NOUN RSET KEYREL + - ENTR CLR\n";
-    let ended = run_gated(&rt, relayed(line, keys), &Open);
-    let text = text_of(&rt, line, ended);
+    let requested = with_keys(line, RELAY_WORD, keys);
+    let text = text_of(&rt, line, run_gated(&rt, requested, &Open));
     assert!(rt;
         is_first_or_none(&taken_apart(&rt, text.as_str())),
         "{text}"
     );
-    for keys in [
-        "verb",
-        "VERBNOUN",
-        "VERB,NOUN",
-        "PRO",
-        "10",
-        "VERB\x0c",
-        "V ERB",
-    ] {
-        refuses(&rt, relayed(line, keys.as_bytes()), "keys: BadKey");
-    }
 }
 
 /// Returns whether the first of 18 keys is taken at the start, or none is.
 fn is_first_or_none(apart: &Apart) -> bool {
     let tape = apart.tape.as_str();
     tape == "" && apart.left == 18 || tape == "0 key 0\n" && apart.left == 17
-}
-
-/// Without live keys the key text is not read, and the spacing is ignored.
-#[test]
-fn keys_are_not_read(rt: HostRuntime) {
-    ends_unread(&rt, "--limit 10 --spacing 0", "");
-    ends_unread(&rt, "--limit 10 --live", "agc: cannot read keys\n");
-    ends_unread(&rt, "--limit 10 --live --until 1", "agc: until: BadSpec\n");
-}
-
-/// Checks that a session whose keys cannot be read ends with this error line, or without one.
-fn ends_unread(rt: &impl Host, line: &str, reported: &str) {
-    let file = file_of(rt, IDLE);
-    let (mut rope, mut script): (&[u8], &[u8]) = (file.as_slice(), b"");
-    let mut keys = Source::new(b"FOO", 4, 1);
-    let ended = run_files(rt, line, &mut rope, &mut script, &mut keys, &Open);
-    ends_with(rt, &ended, reported);
-}
-
-/// The watcher's text comes after the remaining keys.
-#[test]
-fn keys_before_tables(rt: HostRuntime) {
-    let line = "--limit 10 --live --watch 0,0,0,1,0,1,10";
-    let ended = run_gated(&rt, relayed(line, b""), &Open);
-    let text = text_of(&rt, line, ended);
-    has_line(&rt, text.as_str(), 9, "REST 0");
-    let tables = text.as_str().lines().nth(10);
-    assert!(rt; tables.is_some_and(|line| line.starts_with("LST1 ")));
 }
 
 /// The text of a live run in parts: the lines of the tape, the number of keys left, and all other lines.
@@ -180,12 +93,7 @@ fn text_of_pressed<G: Gate + Sync>(rt: &impl Host, spacing: u64, gate: &G) -> St
     let line = format!(in rt.alloc(); "--limit 100000 --log --live --spacing {spacing}").expect(
         rt, "memory",
     );
-    let requested = Requested {
-        line: line.as_str(),
-        rope: GivenRope::Listing(KEYED_WRITES),
-        script: b"",
-        keys: b"VERB 3 5\n",
-    };
+    let requested = with_keys(line.as_str(), KEYED_WRITES, b"VERB 3 5\n");
     let ended = run_gated(rt, requested, gate);
     text_of(rt, line.as_str(), ended)
 }

@@ -1,4 +1,4 @@
-//! Files and standard streams for tests: in memory, with few bytes a call, failing, or endless.
+//! Files and standard streams for tests: in memory, with few bytes a call, or failing.
 use std::alloc::Global;
 use std::io::{self, ErrorKind, Read, Write};
 
@@ -37,17 +37,6 @@ impl Read for Source<'_> {
         }
         let room = buf.len().min(self.most);
         self.left.read(&mut buf[..room])
-    }
-}
-
-/// A file that never ends.
-#[derive(Drop)]
-pub struct Endless;
-
-impl Read for Endless {
-    fn read(&mut self, buf: &mut [u8]) -> io::Result<usize> {
-        buf.fill(b'0');
-        Ok(buf.len())
     }
 }
 
