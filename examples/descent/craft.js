@@ -197,15 +197,17 @@ export class Craft {
 
   // Sends the pulses since the last call.
   sendPulses(agc) {
-    const whole = (counter) => Math.floor(this.counted[counter] / this.pulse + this.rounding);
-    const now = [[PIPAX, whole(PIPAX)], [PIPAZ, whole(PIPAZ)], [CDUY, this.angle()]];
-    for (const [counter, value] of now) {
-      const more = Math.max(-FASTEST[counter], Math.min(FASTEST[counter], value - this.sent[counter]));
-      this.sent[counter] += more;
-      this.events += Math.abs(more);
-      const kind = (counter === CDUY ? ['pcdu', 'mcdu'] : ['pinc', 'minc'])[more < 0 ? 1 : 0];
-      for (let n = 0; n < Math.abs(more); n += 1) agc.pulse(counter, kind);
-    }
+    for (const counter of [PIPAX, PIPAZ]) this.sendUpTo(agc, counter, Math.floor(this.counted[counter] / this.pulse + this.rounding), 'pinc', 'minc');
+    this.sendUpTo(agc, CDUY, this.angle(), 'pcdu', 'mcdu');
+  }
+
+  // Sends as many pulses as a counter still needs for a value, and may get in a step.
+  sendUpTo(agc, counter, value, up, down) {
+    const more = Math.max(-FASTEST[counter], Math.min(FASTEST[counter], value - this.sent[counter]));
+    if (more === 0) return;
+    this.sent[counter] += more;
+    this.events += Math.abs(more);
+    for (let n = 0; n < Math.abs(more); n += 1) agc.pulse(counter, more < 0 ? down : up);
   }
 
   // The radar's word, once for each change of what channel 13 wants; null without one.
@@ -229,8 +231,53 @@ export class Craft {
     return seen >= 0 ? magnitude : magnitude ^ 0o77777;
   }
 
-  save() {
-    return { ...this, noise: this.noise.state, counted: { ...this.counted }, sent: { ...this.sent } };
+  // Fills an old state, if there is one: field by field, because Object.assign makes an object of each number.
+  save(old) {
+    if (!old) return { ...this, noise: this.noise.state, counted: { ...this.counted }, sent: { ...this.sent } };
+    this.copyFlight(old);
+    this.copyLoad(old);
+    old.noise = this.noise.state;
+    for (const counter of [PIPAX, PIPAZ]) old.counted[counter] = this.counted[counter];
+    for (const counter of [PIPAX, PIPAZ, CDUY]) old.sent[counter] = this.sent[counter];
+    return old;
+  }
+
+  // Copies how it flies, and what the computer has commanded.
+  copyFlight(to) {
+    to.height = this.height;
+    to.way = this.way;
+    to.forward = this.forward;
+    to.up = this.up;
+    to.mass = this.mass;
+    to.tilt = this.tilt;
+    to.turning = this.turning;
+    to.thrust = this.thrust;
+    to.command = this.command;
+    to.jets = this.jets;
+    to.engine = this.engine;
+    to.flying = this.flying;
+    to.touched = this.touched;
+    to.contact = this.contact;
+    to.staged = this.staged;
+    to.dry = this.dry;
+    to.seconds = this.seconds;
+    to.lost = this.lost;
+  }
+
+  // Copies what it began with, and what the computer got from it.
+  copyLoad(to) {
+    to.seed = this.seed;
+    to.isFar = this.isFar;
+    to.knownHeight = this.knownHeight;
+    to.knownMass = this.knownMass;
+    to.knownForward = this.knownForward;
+    to.knownUp = this.knownUp;
+    to.ascentFuel = this.ascentFuel;
+    to.wanted = this.wanted;
+    to.answered = this.answered;
+    to.pulse = this.pulse;
+    to.rounding = this.rounding;
+    to.events = this.events;
   }
 
   load({ noise, counted, sent, ...rest }) {
@@ -365,6 +412,7 @@ export class Instrument {
 
   // Clicks the switches whose buttons went down, and releases those that were held long enough.
   click(agc) {
+    if (!this.clicked.length && !this.held.length) return;
     for (const [name, tick] of this.held) {
       if (tick === this.ticks) agc.input(SWITCHES[name][0], SWITCHES[name][2]);
     }
@@ -466,9 +514,17 @@ export class Instrument {
   }
 
   // All that changes, so that the craft goes back in time with the machine.
-  save() {
+  save(old) {
     const { ticks, behind, switched, clicked, held, typing } = this;
-    return { craft: this.craft.save(), ticks, behind, switched, clicked, held, typing };
+    if (!old) return { craft: this.craft.save(), ticks, behind, switched, clicked, held, typing };
+    this.craft.save(old.craft);
+    old.ticks = ticks;
+    old.behind = behind;
+    old.switched = switched;
+    old.clicked = clicked;
+    old.held = held;
+    old.typing = typing;
+    return old;
   }
 
   load({ craft, ticks, behind, switched, clicked, held, typing }) {

@@ -2,6 +2,7 @@
 
 export const PI = 3.141592653589793;
 const MODULUS = 2147483647;
+const LASTS = [14, 12, 10, 8, 6, 4, 2]; // of the power series
 export const SEEDS = MODULUS - 1; // seeds are 0 to SEEDS - 1
 
 // The nearest whole number; halves go up.
@@ -17,13 +18,15 @@ export function sineAndCosine(radians) {
   const square = rest * rest;
   let sine = 1;
   let cosine = 1;
-  for (const last of [14, 12, 10, 8, 6, 4, 2]) {
+  for (const last of LASTS) {
     sine = 1 - (square / (last * (last + 1))) * sine;
     cosine = 1 - (square / (last * (last - 1))) * cosine;
   }
   sine *= rest;
   const turned = quarters - 4 * Math.floor(quarters / 4);
-  return [[sine, cosine], [cosine, -sine], [-sine, -cosine], [-cosine, sine]][turned];
+  if (turned === 0) return [sine, cosine];
+  if (turned === 1) return [cosine, -sine];
+  return turned === 2 ? [-sine, -cosine] : [-cosine, sine];
 }
 
 // The generator of Park and Miller.

@@ -2,6 +2,17 @@
 // itself, which runs on every browser.
 import { makeHost } from "./host.js";
 
+// Returns the bytes of a text. A loop, because what a browser's encoder returns is slow to collect, and most texts are short.
+function bytesOf(text) {
+  const bytes = new Uint8Array(text.length);
+  for (let i = 0; i < text.length; i += 1) {
+    const code = text.charCodeAt(i);
+    if (code > 127) return new TextEncoder().encode(text);
+    bytes[i] = code;
+  }
+  return bytes;
+}
+
 // Standard input: what was given and not read yet.
 export class Input {
   #bytes = new Uint8Array(0);
@@ -10,7 +21,7 @@ export class Input {
 
   // Gives the program more text; null is the end.
   give(text) {
-    const more = new TextEncoder().encode(text ?? "");
+    const more = bytesOf(text ?? "");
     const all = this.#bytes.length ? new Uint8Array(this.#bytes.length + more.length) : more;
     if (all !== more) {
       all.set(this.#bytes);
@@ -18,8 +29,9 @@ export class Input {
     }
     this.#bytes = all;
     this.#ended ||= text === null;
-    this.#wake?.();
+    const wake = this.#wake;
     this.#wake = null;
+    wake?.();
   }
 
   // Returns at most so many bytes.
@@ -34,9 +46,14 @@ export class Input {
     return this.#bytes.length > 0 || this.#ended;
   }
 
+  // Calls a task once there is more input, or its end: before `give` returns.
+  wakes(task) {
+    this.#wake = task;
+  }
+
   // Resolves when there is more input, or its end.
   comes() {
-    return new Promise((resolve) => { this.#wake = resolve; });
+    return new Promise((resolve) => this.wakes(resolve));
   }
 }
 
@@ -56,7 +73,8 @@ async function runSuspending(code, given, input) {
   return WebAssembly.promising(instance.exports.main)(0, 0n);
 }
 
-// The module itself leaves all its calls when it has to wait in read, and comes back to the same place when main is called again.
+// The module itself leaves all its calls when it has to wait in read, and comes back to the same place when main is called again:
+// within `give`, which returns when it waits once more.
 async function runStopping(code, given, input) {
   const { host, use } = makeHost({ ...given, read: (count) => input.take(count) });
   const readNow = host.read;
@@ -81,13 +99,31 @@ async function runStopping(code, given, input) {
   const room = 1 << 17;
   saved = Number(program.malloc(BigInt(room)));
   new Int32Array(program.memory.buffer, saved, 2).set([saved + 8, saved + room]);
-  for (;;) {
+  const goOn = () => {
     const status = program.main(0, 0n);
     if (!waits) return status;
     waits = false;
     program.asyncify_stop_unwind();
-    await input.comes();
-    comesBack = true;
-    program.asyncify_start_rewind(saved);
-  }
+    return null;
+  };
+  return new Promise((end, fail) => {
+    const run = () => {
+      try {
+        const status = goOn();
+        if (status !== null) {
+          end(status);
+          return;
+        }
+      } catch (error) {
+        fail(error);
+        return;
+      }
+      input.wakes(() => {
+        comesBack = true;
+        program.asyncify_start_rewind(saved);
+        run();
+      });
+    };
+    run();
+  });
 }

@@ -19,6 +19,8 @@ from source import HAS_ASSEMBLER, press_in_strip, started, woven
 NAMES = example('descent', 'names')
 LONGEST = 300  # seconds that a step may take
 NEAR = 0.15  # m/s: the keys come at other times than those of craft.py
+ALARMS = 10_000_000  # cycles in which more than eight alarms follow the first one
+CALLED = 100  # cycles from a call of FINDVAC that finds no area to BAILOUT at most
 PRIO10 = re.compile(r'PRIO10(?=\s+TC\s+NOVAC\s+2CADR\s+RANGEJOB)')
 END = 'That is all.'
 PRIORITY = "document.querySelector('#watched [data-place=PRIORITY] td').textContent"
@@ -30,6 +32,12 @@ LOOK = """((before, waits) => {
     return what;
 })"""
 """Clicks what a new step of the strip offers, unless its hand comes first, and returns what the step says."""
+PASSED = """(() => {
+    const next = window.usualNext ??= nextStep;
+    window.passed = [];
+    nextStep = () => { window.passed.push(stepNow().what); next(); };
+})()"""
+"""Notes each step that the page passes: a slow machine may pass one between two looks."""
 CLICK = "document.querySelector('#strip-buttons .main').click()"
 
 
@@ -37,6 +45,7 @@ def walk(page, guide, hands, first=()):
     """Follows a guide to its end. `hands` has what a user does at a step, by the step's beginning: a function that gets whether the
     step is new, because it is called at each look. What the steps of `first` offer is clicked after their hands."""
     steps = ['']
+    page.value(PASSED)
     press_in_strip(page, guide)
 
     def is_next():
@@ -56,7 +65,9 @@ def walk(page, guide, hands, first=()):
         continue
     judge(f'{guide}: it comes to its end', END, steps[-1])
     wanted = page.value(f'guiding.guides.find(({{ title }}) => title === {json.dumps(guide)}).steps.map((each) => each.what)')
-    judge(f'{guide}: each step was shown', wanted, steps[1:-1])
+    judge(f'{guide}: each step was passed', wanted, page.value('passed'))
+    rest = iter(wanted)
+    judge(f'{guide}: what was shown, in its order', [], [each for each in steps[1:-1] if each not in rest])
     judge(f'{guide}: its hands were needed', [], [begin for begin in hands if not any(each.startswith(begin) for each in steps)])
 
 
@@ -164,12 +175,21 @@ def try_bug():
     with open(rope, 'rb') as file:
         judge('the rope is that of examples/descent/puzzle', file.read(), bytes(page.value('[...session.files.rope]')))
 
+    def wait_long(is_new):
+        """Lets more alarms come, as for a user who reads slowly."""
+        if is_new:
+            page.site.do('speed', times=100)
+            late = page.cycle() + ALARMS
+            check('more alarms come', wait(lambda: page.cycle() > late, LONGEST))
+
     def at_alarm(is_new):
         """Compares what the page shows with what agc-console has at the first alarm of the same script."""
         if not is_new:
             return
+        here = page.cycle()
         with Console(rope, file_of('script', page.site.script().encode()), names=NAMES, program=[CONSOLE]) as console:
-            console.until('BAILOUT', within=3_000_000)
+            check('the alarm comes', console.until('BAILOUT', within=here + CALLED).came)
+            check(f'the page stands at {here}, before the call of the first alarm, {console.cycle}', here < console.cycle <= here + CALLED)
             areas = {place: console.cell(place) for place in ('VAC1USE', 'VAC5USE')}
             jobs = [line for line in console.tables('0,200,10,0,340,0,350') if line.startswith('SET ') and not line.endswith('FREE')]
         judge('at the alarm both areas are in use', {'VAC1USE': 0, 'VAC5USE': 0}, areas)
@@ -191,7 +211,8 @@ def try_bug():
             judge_landing('without the bug', page, example('descent', 'rope'), True)
             judge('no lamp of an alarm', False, page.value("isLit('PROG')"))
 
-    walk(page, 'Exercise: find the bug', {'Both are 0': at_alarm, 'Look at Orders': at_mask, 'It has landed': landed}, ['Both are 0'])
+    hands = {'PROG is lit': wait_long, 'Both are 0': at_alarm, 'Look at Orders': at_mask, 'It has landed': landed}
+    walk(page, 'Exercise: find the bug', hands, ['PROG is lit', 'Both are 0'])
     page.close()
 
 
@@ -213,9 +234,9 @@ def try_engine():
         page.value("""document.querySelector('[data-back="1"]').click()""")
 
     def played(is_new):
-        """Plays on after each stop that is not ENGOFF's."""
+        """Plays on after each stop that is not ENGOFF's, once the page has the answer to what was clicked before."""
         if not is_new:
-            page.value("now.playing || shown.machine.next.includes('ENGOFF') || ask('play'), undefined")
+            page.value("now.playing || pending || shown.machine.next.includes('ENGOFF') || ask('play'), undefined")
 
     def lists(cycle, name):
         return wait(lambda: any(web_line(cycle, each) and name in each for each in page.texts('#history li')), 60)

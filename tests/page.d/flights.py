@@ -14,6 +14,7 @@ KEYS = 'VERB 3 7 ENTR 6 4 ENTR'.split()
 SCRIPT = ''.join([f'{50000 + 20000 * n} key {key}\n' for n, key in enumerate(KEYS)] + ['230000 pro down\n', '250000 pro up\n'])
 SEEDS = tuple(map(int, os.environ.get('SEEDS', '7').split()))
 END = int(os.environ.get('END', 1_200_000))  # cycles of a flight that are compared
+LONG = 2_600_000  # cycles after which states of past ticks have been filled again
 
 
 def module_of(name):
@@ -71,8 +72,38 @@ def try_flights():
         compare(page, f'landing {seed}', 'descent', craft.Instrument(craft.Craft(seed=seed), seed), SCRIPT, {'seed': seed})
     craft = module_of('lander')
     compare(page, 'lander', 'lander', craft.Instrument(craft.Craft()), '', None)
+    try_past(page)
+    try_release(page)
     try_buttons(page)
     page.close()
+
+
+def try_past(page):
+    """The craft goes back to each of its past states: from there the same events come once more."""
+    wanted = flown_in_page(page, 'descent', SCRIPT, {'seed': SEEDS[0]}, LONG)
+    rows, end = page.site.state()['instruments'][0]['rows'], page.cycle()
+    for back in (50_000, 500_000, 800_000, 1_500_000, 2_500_000):
+        judge(f'back by {back}', 200, page.site.do('go', cycle=end - back, sure=True))
+        judge(f'on by {back}', 200, page.site.do('go', cycle=end, sure=True))
+        found = [line for line in page.site.script().splitlines() if int(line.split(' ')[0]) < LONG]
+        differs = next((pair for pair in zip(wanted, found) if pair[0] != pair[1]), None)
+        judge(f'the first line that differs, how many there are, and the rows, by {back}', (None, len(wanted), rows), (differs, len(found), page.site.state()['instruments'][0]['rows']))
+
+
+def try_release(page):
+    """Going back asks before it drops a press of PRO, but not if PRO has only come up since: a slow page holds it long."""
+    page.site.open('verbs')
+    page.site.do('play')
+    for down in (True, False):
+        page.site.do('pro', down=down)
+        page.run_on(20_000)
+    page.pause()
+    script = page.site.script()
+    pressed, released = (int(line.split(' ')[0]) for line in script.splitlines())
+    judge('back to before PRO came up', 200, page.site.do('go', cycle=released - 100))
+    judge('it comes up there', f'{pressed} pro down\n{released - 100} pro up\n', page.site.script())
+    judge('undo', (200, script), (page.site.do('undo'), page.site.script()))
+    judge('back to before it went down', 409, page.site.do('go', cycle=0))
 
 
 def try_buttons(page):

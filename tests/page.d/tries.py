@@ -19,6 +19,7 @@ import zlib
 
 import caused
 import exercises
+import figures
 import flights
 import listing
 import opening
@@ -199,7 +200,7 @@ def try_firefox():
 
 # Those that take longest come first.
 TRIES = (
-    *exercises.TRIES, *twins.TRIES, *flights.TRIES, *source.TRIES, *plotted.TRIES, *randoms.TRIES, *opening.TRIES, *caused.TRIES, web.try_sizes,
+    *figures.TRIES, *exercises.TRIES, *twins.TRIES, *flights.TRIES, *source.TRIES, *plotted.TRIES, *randoms.TRIES, *opening.TRIES, *caused.TRIES, web.try_sizes,
     *(listing.TRIES if source.HAS_ASSEMBLER else ()), web.try_changes, web.try_stop, try_session, try_example, try_words, try_old,
     try_made, try_packed, try_letters,
 )

@@ -166,7 +166,7 @@ def try_full_disk():
     status, out, err, _ = ended(site, signal.SIGINT)
     judge('a full disk: the script is printed', (3, '\n' + script), (status, out))
     judge('and the file is named', f'agc-web: {saved}: File too large\n', err)
-    judge('no file is left', [], [name for name in os.listdir(FOLDER) if name.startswith(('full', 'tmp'))])
+    judge('no file is left', [], [name for name in os.listdir(FOLDER) if name.startswith(('full', 'agc-web.'))])
     site = started(example('verbs', 'rope'), '--save', saved)
     script = typed(site)
     compare_end('the next try', ended(site, signal.SIGINT), script, saved)
@@ -207,15 +207,16 @@ def try_full_output():
         import resource, sys
         sys.argv = ['agc-web', {example('keys', 'rope')!r}, '--port', '0']
         from agc_web import command
-        usual = command._show
-        def show(server, open_page):
-            usual(server, open_page)
+        usual = command._is_shown
+        def show(server, open_page, file):
+            is_shown = usual(server, open_page, file)
             server.session.press('4')
             resource.setrlimit(resource.RLIMIT_FSIZE, (100, resource.RLIM_INFINITY))
             sys.stdout.write('x' * 100)
             import os, signal
             os.kill(os.getpid(), signal.SIGINT)
-        command._show = show
+            return is_shown
+        command._is_shown = show
         sys.exit(command.main())"""
     with open(os.path.join(FOLDER, 'output'), 'w') as output:
         done = subprocess.run([sys.executable, '-B', '-c', program], stdout=output, stderr=subprocess.PIPE, text=True, timeout=LONGEST)

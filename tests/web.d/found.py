@@ -24,7 +24,8 @@ def copied(name, names=None, watch=None):
 def found(site):
     """Returns how many names the page offers, its SPEC, whether it shows tables, and what a breakpoint at SERVICER comes to."""
     state = site.state()
-    return len(state['about']['names']), state['about']['watch'], 'tables' in state, site.do('break', place='SERVICER')
+    named = [line for line in (state['about']['names'] or '').splitlines() if not line.startswith(('#', 'C'))]
+    return len(named), state['about']['watch'], 'tables' in state, site.do('break', place='SERVICER')
 
 
 def try_found():

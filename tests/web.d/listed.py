@@ -4,7 +4,6 @@ What is wanted is what agc-study traces of the script that the page lets one dow
 here: a row is a place, a word and `# FILE NUMBER: TEXT`, or `# FILE NUMBER: TEXT` alone, or a place and a word that belong to the
 row before.
 """
-import json
 import os
 import re
 import shutil
@@ -184,7 +183,7 @@ def try_pointed(site, window, lines, keyin):
         const box = document.querySelector('[data-line="{line}"] [data-name="KEY"]').getBoundingClientRect();
         return [(box.left + box.right) / 2, (box.top + box.bottom) / 2];
     }})()""")
-    word = lambda: json.loads(site.request('POST', '/look', {'cells': ['0100']})[2])['cells']['0100']
+    word = lambda: int(site.said('cell 0100')[-5:], 8)
     said = lambda: f'KEY is E0,0100: {word():05o}, {word()}'
     window.mouse('mouseMoved', *box)
     judge('a cell', said(), see(window, NAMES, said()))

@@ -127,10 +127,10 @@ def try_wrong():
     window = opened(site)
     judge('of the file that is named', f'The file of quantities, {WRONG[-2][1]}', see(window, FAULT, f'The file of quantities, {WRONG[-2][1]}'))
     for text, why in WRONG:
-        window.value(f"keepQuantities({{ ...shown.about, quantities: {json.dumps(text)} }}).then(() => 0)")
+        window.value(f"keepQuantities({{ ...quantities.about, quantities: {json.dumps(text)} }}).then(() => 0)")
         judge(f'{text[:60]!r}', f'The file of quantities, {why}', window.value(FAULT))
     judge('no markup', [0, 0], window.value("[document.querySelectorAll('#watch-panel img').length, window.ran ?? 0]"))
-    window.value("keepQuantities({ ...shown.about, quantities: 'a 0100 doubel B14\\nb COUNT single B14 m' }).then(() => 0)")
+    window.value("keepQuantities({ ...quantities.about, quantities: 'a 0100 doubel B14\\nb COUNT single B14 m' }).then(() => 0)")
     judge('the others are shown', ['b'], window.value(f'{ROWS}.map(([name]) => name)'))
     judge('errors of the page', [], window.errors())
     window.close()
@@ -159,12 +159,14 @@ def try_ranges():
     site = started(example('keys', 'rope'), named('script', '0 poke 0 200 00001\n0 poke 0 201 77776\n'))
     for _ in range(2):
         site.do('step')
-    looked = lambda cell: json.loads(site.request('POST', '/look', {'cells': [cell]})[2])['cells'][cell]
+    window = opened(site)
+    looked = lambda cell: window.value(f'session.look({{ cells: [{json.dumps(cell)}] }}).then(({{ cells }}) => Object.values(cells)[0])')
     judge('two cells', [1, 0o77776], looked('0200 2'))
     judge('six cells', [1, 0o77776, 0, 0, 0, 0], looked('0200 6'))
     for cell in ('0200 7', '0200 1', '0200 22', '0200  2', '0200 2 ', '0200 2\n', '0200\n', ''):
         judge(repr(cell), 'a cell is one word', looked(cell))
     judge('past all cells', True, looked('E7,1777 2').startswith('a number of cells is '))
+    window.close()
     site.end()
 
 

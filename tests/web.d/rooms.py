@@ -122,7 +122,7 @@ def try_whole_request():
             connection.close()
         finally:
             agc_web.server.WHOLE = usual
-            server.stop()
+            server.server_close()
             session.close()
 
 

@@ -138,6 +138,14 @@ class Site:
         """Has a command done; returns the status."""
         return self.request('POST', '/do', {'do': command, **more})[0]
 
+    def say(self, *lines):
+        """Says lines to the console; returns the cycle and the answers."""
+        return json.loads(self.request('POST', '/say', {'lines': lines})[2])
+
+    def said(self, line):
+        """Returns the line that answers a line."""
+        return self.say(line)['answers'][0]['lines'][0]
+
     def script(self):
         return self.request('GET', '/script')[2]
 

@@ -46,6 +46,7 @@ AGAIN   TS      LEFT
         RETURN
 LONG    DEC     400
 """
+BACK = "document.querySelector('#listing-steps [data-from=step]')"
 WAYS = 'step over over step step finish back-over step step step step step finish back-over step back-finish step over step over step step finish over back-step back-over'.split()
 
 
@@ -98,6 +99,9 @@ def of_steps(window, rope):
         wanted = run.goes(way, cycle)
         judge(f'{number}: {way} from {cycle}', wanted, see(window, 'now.cycle', wanted))
         cycle = wanted
+    wanted = run.goes('back-step', run.goes('back-step', cycle))
+    window.value(f'{BACK}.click(); {BACK}.click(); undefined')
+    judge('two quick clicks', wanted, see(window, 'now.cycle', wanted))
 
 
 def try_calls():
@@ -112,8 +116,7 @@ def try_calls():
     site.do('step')
     after = see(window, 'now.cycle > ' + str(before), True) and window.value('now.cycle')
     script = site.script()
-    window.value("document.querySelector('#listing-steps [data-from=step]').click(); undefined")
-    window.value("document.querySelector('#listing-steps [data-from=step]').click(); undefined")
+    window.value(f'{BACK}.click(); undefined')
     judge('it asks', True, see(window, "document.getElementById('ask').open", True))
     window.value("document.getElementById('ask-yes').click(); undefined")
     judge('the key is dropped', '', wait(lambda: site.script() == '') and site.script())

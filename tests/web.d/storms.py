@@ -66,7 +66,10 @@ class Tab(threading.Thread):
         if what in ('GET /script', 'GET /', 'GET /film'):
             self.ask('GET', what.split(' ')[1])
         elif what == 'look':
-            self.ask('POST', '/look', {'bank': self.chance.randrange(8), 'cells': ['0100', 'nowhere'], 'channels': [8, 9]})
+            lines = [f'cell E{self.chance.randrange(8)},1400 256', 'cell 0100', 'cell nowhere', 'channel 10', 'channel 11']
+            self.ask('POST', '/say', {'lines': lines})
+        elif what == 'search':
+            self.ask('POST', '/search', {'lines': ['back until write 10', 'ahead 10'], 'before': int(10 ** self.chance.uniform(2, 8))})
         else:
             self.ask('POST', '/do', {'do': what, **self.words(what)})
         return stream
@@ -99,7 +102,7 @@ class Tab(threading.Thread):
 
 ACTS = (
     *['key'] * 12, *['play'] * 4, 'pause', 'speed', *['step'] * 2, 'go', 'back', *['undo'] * 2, 'break', 'unbreak', 'pro',
-    'look', 'GET /script', 'GET /', 'GET /film', 'close',
+    'look', 'search', 'GET /script', 'GET /', 'GET /film', 'close',
 )
 
 

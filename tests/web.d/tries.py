@@ -826,9 +826,14 @@ def try_refusals():
         ('no breakpoint', 400, lambda: post({'do': 'break', 'place': '4100\nkey 7'})),
         ('a breakpoint elsewhere', 400, lambda: post({'do': 'break', 'place': '7777777'})),
         ('no instrument', 400, lambda: post({'do': 'control', 'instrument': 0, 'name': 'x', 'down': True, 'window': 'w'})),
-        ('no bank', 400, lambda: site.request('POST', '/look', {'bank': 8})[0]),
-        ('too many cells', 400, lambda: site.request('POST', '/look', {'cells': ['0100'] * 65})[0]),
-        ('no channels', 400, lambda: site.request('POST', '/look', {'channels': [-1]})[0]),
+        ('no lines', 400, lambda: site.request('POST', '/say', {'lines': 'cell 0100'})[0]),
+        ('too many lines', 400, lambda: site.request('POST', '/say', {'lines': ['cell 0100'] * 201})[0]),
+        ('a number as a line', 400, lambda: site.request('POST', '/say', {'lines': [-1]})[0]),
+        ('a line that runs the machine', 400, lambda: site.request('POST', '/say', {'lines': ['cell 0100', 'go 100']})[0]),
+        ('two lines as one', 400, lambda: site.request('POST', '/say', {'lines': ['cell 0100\ngo 100']})[0]),
+        ('a line that writes a file', 400, lambda: site.request('POST', '/search', {'lines': ['save file']})[0]),
+        ('an event in a search', 400, lambda: site.request('POST', '/search', {'lines': ['key 7']})[0]),
+        ('a search before no cycle', 400, lambda: site.request('POST', '/search', {'lines': ['panel'], 'before': True})[0]),
         ('nothing to undo', 409, lambda: post({'do': 'undo'})),
         ('no such page', 404, lambda: site.request('GET', '/web/../server.py')[0]),
         ('no such place', 404, lambda: site.request('POST', '/key', key)[0]),
@@ -910,7 +915,7 @@ def try_pace():
 
 
 def try_writes():
-    """An order that writes shows its panel and is reported in a step, too, and in the orders after which time stops."""
+    """An order that writes shows its panel and is reported, in a step, too, and once, although a pause runs the last boundaries anew."""
     rope = example('keys', 'rope')
     wanted = [(20, 0o10, 0o44017)]  # of the key 4 at cycle 0, by the rope's source
     with Console(rope, program=[CONSOLE]) as console:
@@ -922,7 +927,10 @@ def try_writes():
             session.on_write(heard.append)
             session.press('4')
             if what == 'a pause':
-                session.call(lambda: (session.play(), session.pause()))
+                session.play()
+                wait(lambda: heard)
+                before, _, after = session.call(lambda: (console.cycle, session.pause(), console.cycle))
+                judge('a pause stands where it was', before, after)
             else:
                 for _ in range(20):
                     session.step()
@@ -1012,7 +1020,7 @@ def measured_pace(site):
 
 def look_at(site):
     """Returns the cycle that the machine has come to."""
-    return json.loads(site.request('POST', '/look', {})[2])['cycle']
+    return site.say()['cycle']
 
 
 def try_latency():

@@ -16,10 +16,10 @@ FOLDER = scratch_folder()
 NAMES = example('console', 'names', 'names')
 
 
-def found(site, **body):
+def found(window, **wanted):
     """Searches; returns the status and the answer."""
-    status, _, text = site.request('POST', '/find', body)
-    return status, json.loads(text)
+    answer = window.value(f'session.find({json.dumps(wanted)})')
+    return answer.pop('status'), answer
 
 
 def orders_before(script, place, end):
@@ -43,6 +43,7 @@ def try_find():
     """A search finds what a run that is stepped forward finds, changes nothing, and refuses what is no place in the console's
     words. A key's relay word is written 22 cycles after the key, or a few more for steps of timers."""
     site = started(example('keys', 'rope'), '--names', NAMES)
+    window = opened(site)
     site.do('key', name='4')
     for _ in range(60):
         site.do('step')
@@ -54,22 +55,23 @@ def try_find():
     before = (site.script(), site.state()['time']['cycle'])
     (first_key, none), (last_key, order) = orders_before(site.script(), '4024', before[1])
     judge('no order is before the first', None, none)
-    judge('the last KEYIN', (200, {'cycle': last_key, 'order': order}), found(site, places=['KEYIN']))
-    judge('the one before', (200, {'cycle': first_key, 'order': first_key}), found(site, places=['KEYIN'], before=second))
-    status, hit = found(site, places=['KEYIN', 'write 010'])
+    judge('the last KEYIN', (200, {'cycle': last_key, 'order': order}), found(window, places=['KEYIN']))
+    judge('the one before', (200, {'cycle': first_key, 'order': first_key}), found(window, places=['KEYIN'], before=second))
+    status, hit = found(window, places=['KEYIN', 'write 010'])
     judge('the later of two', (200, True), (status, second + 20 <= hit['cycle'] <= second + 25))
-    judge('a place that never came', 409, found(site, places=['write 777'])[0])
+    judge('a place that never came', 409, found(window, places=['write 777'])[0])
     with Console(example('keys', 'rope'), names=NAMES, program=[CONSOLE]) as console:
         try:
             console.back_until('NOWHERE')
             said = ''
         except Exception as refused:
             said = str(refused)
-    judge('a name that is unknown: what the console says', (400, {'error': said}), found(site, places=['NOWHERE']))
+    judge('a name that is unknown: what the console says', (400, {'error': said}), found(window, places=['NOWHERE']))
     for places in (None, 'KEYIN', [], [7], ['KEYIN'] * 9, [''], ['KEYIN\nkey 4'], ['x' * 81]):
-        judge(f'{places!s:.20} is refused', 400, found(site, places=places)[0])
-    judge('before is a cycle', 400, found(site, places=['KEYIN'], before='1')[0])
+        judge(f'{places!s:.20} is refused', 400, found(window, places=places)[0])
+    judge('before is a cycle', 400, found(window, places=['KEYIN'], before='1')[0])
     judge('nothing has changed', before, (site.script(), site.state()['time']['cycle']))
+    window.close()
     site.end()
 
 

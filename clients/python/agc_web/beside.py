@@ -10,16 +10,13 @@ import os
 import shutil
 import tempfile
 from contextlib import suppress
-from typing import Callable, Dict, Mapping, NamedTuple, Optional, Tuple
+from typing import Any, Callable, Dict, Mapping, NamedTuple, Optional, Tuple
 
 import agc
+from agc_web.ending import naming
 
-Start = Callable[[Optional[str]], agc.Console]
-"""Starts a console with a file of names, or without."""
-
-Note = Callable[[str], None]
-"""Says something to the user."""
-
+Start = Callable[[Optional[str]], agc.Console]  # with a file of names, or without
+Note = Callable[[str], None]  # says something to the user
 LONGEST_SPEC = 200  # characters
 LONGEST = {"guide": 65536, "listing": 16_777_216, "quantities": 1_048_576, "nouns": 65536}  # bytes
 
@@ -41,9 +38,10 @@ def opened(start: Start, named: Beside, rope: agc.Path, note: Note) -> Tuple[agc
     why, and the console does without. Raises `agc.Error` if something else is refused."""
     path = os.fspath(rope)
     found = _file_beside(path, "names") or _names_of(named.listing or "")
-    console, names = _with_names(start, named.names, found, note)
+    console, names = _taken(start, named.names, found, f"{found} is", note)
     try:
-        watch = _with_tables(console, named.watch, _first_line(_file_beside(path, "watch")), note)
+        spec = _first_line(_file_beside(path, "watch"))
+        _, watch = _taken(lambda spec: spec and console.tables(spec), named.watch, spec, "the tables beside the rope are", note)
         return console, named._replace(names=names, watch=watch)
     except agc.Error:
         console.close()
@@ -61,14 +59,14 @@ def _text_of(kind: str, named: Optional[str], rope: str, note: Note) -> Optional
     if path is None:
         return None
     try:
-        with open(path, "rb") as file:
+        with naming(path), open(path, "rb") as file:
             text = file.read(LONGEST[kind] + 1)
-        if len(text) > LONGEST[kind]:
-            raise OSError(0, f"it has more than {LONGEST[kind]} bytes", path)
-        return text.decode(errors="replace")
+            if len(text) > LONGEST[kind]:
+                raise OSError(0, f"it has more than {LONGEST[kind]} bytes")
+            return text.decode(errors="replace")
     except OSError as error:
         if named is not None:
-            raise OSError(error.errno or 0, error.strerror or str(error), path) from None
+            raise
         note(f"{path} is left out: {error.strerror}")
         return None
 
@@ -86,31 +84,18 @@ def _names_of(listing: str) -> Optional[str]:
     return path
 
 
-def _with_names(start: Start, named: Optional[str], found: Optional[str], note: Note) -> Tuple[agc.Console, Optional[str]]:
-    """Starts a console, and returns it with the file of names that it has."""
+def _taken(
+    take: Callable[[Optional[str]], Any], named: Optional[str], found: Optional[str], what: str, note: Note
+) -> Tuple[Any, Optional[str]]:
+    """Takes what was named, else what was found, or if that is refused nothing. Returns what came of it, and what was taken."""
     if named is not None or found is None:
-        return start(named), named
+        return take(named), named
     try:
-        return start(found), found
+        return take(found), found
     except agc.Error as refused:
-        console = start(None)  # raises once more if it was not for the names
-        note(f"{found} is left out: {reason(refused)}")
-        return console, None
-
-
-def _with_tables(console: agc.Console, named: Optional[str], found: Optional[str], note: Note) -> Optional[str]:
-    """Returns the SPEC of the tables that the console shows."""
-    watch = named if named is not None else found
-    if watch is None:
-        return None
-    try:
-        console.tables(watch)
-    except agc.Refused as refused:
-        if named is not None:
-            raise
-        note(f"the tables beside the rope are left out: {reason(refused)}")
-        return None
-    return watch
+        taken = take(None)  # raises once more if it was not for this
+        note(f"{what} left out: {reason(refused)}")
+        return taken, None
 
 
 def reason(refused: agc.Error) -> str:

@@ -9,20 +9,17 @@ import webbrowser
 from base64 import b64encode
 from contextlib import suppress
 from functools import partial
-from typing import Any, Callable, Dict, List, Optional, Sequence, Tuple
+from pathlib import Path
+from typing import Any, Callable, Dict, List, Optional, Sequence
 
 import agc
 from agc_web.beside import LONGEST, Beside, opened, reason, texts_of
-from agc_web.ending import UNSAVED, Ending
+from agc_web.ending import REFUSED, SAVED, UNSAVED, Ending, ScriptFile, print_out, say, study
 from agc_web.film import Films
-from agc_web.journal import Repeat
-from agc_web.saving import ScriptFile, print_out, save_or_print, say, study
 from agc_web.server import HERE, Server, is_reachable
 from agc_web.session import Session
 
 PORT = 8437
-MOST_NAMES = 5000  # that the page offers
-SAVED, REFUSED = 0, 1  # statuses; UNSAVED is the third
 _say = partial(say, "agc-web")
 
 
@@ -55,24 +52,27 @@ def serve(
     with Ending() as ending:
         session = Session(console, instruments, watch)
         films = Films(study(), console, form, names, watch, texts.get("nouns"))
-        ending.kill = lambda: _kill(console, films)
-        server = None
+        ending.kills = [console.kill, films.kill]
         try:
-            listing = texts.get("listing")
-            about: Dict[str, Any] = {**dict.fromkeys(LONGEST), **texts, "listing": listing is not None}
-            about.update(_about(console, names, watch))
-            server = _bound(session, about, port, films, listen)
-            server.source = {"listing": listing, "rope": b64encode(console.rope_bytes or b"").decode(), "form": form}
-            if begin is not None:
-                begin(session)
-            server.start()
-            if _is_shown(server, open_page, file):
-                ending.wait()
-            repeat = session.repeat()
-            _leave(ending, repeat, file, os.fspath(console.rope), form)
-            return repeat.script
+            about: Dict[str, Any] = {**dict.fromkeys(LONGEST), **texts, "listing": texts.get("listing") is not None}
+            names_text = Path(names).read_text(encoding="ascii", errors="replace") if names is not None else None
+            about.update(rope=os.fspath(console.rope), names=names_text, watch=watch)
+            with _bound(session, about, port, films, listen) as server:
+                rope = b64encode(console.rope_bytes or b"").decode()
+                server.source = {"listing": texts.get("listing"), "rope": rope, "form": form}
+                if begin is not None:
+                    begin(session)
+                server.start()
+                if _is_shown(server, open_page, file):
+                    ending.wait()
+                with suppress(OSError):  # the terminal is gone
+                    print(flush=True)
+                repeat = session.repeat()
+                ending.save(repeat, file, os.fspath(console.rope), form)  # before anything else is ended
+                return repeat.script
         finally:
-            _close(server, session, films)
+            films.close()
+            session.close()
 
 
 def main(words: Optional[List[str]] = None) -> int:
@@ -129,28 +129,9 @@ def attached(port: Optional[int], listen: str = HERE) -> Optional[Callable[[Sess
     if port is None:
         return None
     from agc_web import instruments  # not before: it is a program, too
-    first = port
     if is_reachable(listen):
         _say(f"warning: whoever reaches {listen} can use the machine by the instruments' ports: they know no passwords")
-    return lambda session: instruments.attach(session, first, listen)
-
-
-def _about(console: agc.Console, names: Optional[str], watch: Optional[str]) -> Dict[str, Any]:
-    """Returns the first message to the page."""
-    places = _places_in(names)
-    return {
-        "rope": os.fspath(console.rope), "names": [name for _, name in places], "places": [place for place, _ in places],
-        "watch": watch,
-    }
-
-
-def _places_in(file: Optional[str]) -> List[Tuple[str, str]]:
-    """Returns the places in a file of names, and their names; channels, whose numbers begin with C, are left out."""
-    if file is None:
-        return []
-    with open(file, encoding="ascii", errors="replace") as lines:
-        words = [line.split() for line in lines]
-    return [(each[0], each[1]) for each in words if len(each) > 1 and each[0][0] not in "#C"][:MOST_NAMES]
+    return partial(instruments.attach, port=port, address=listen)
 
 
 def _bound(session: Session, about: Dict[str, Any], port: Optional[int], films: Films, listen: str) -> Server:
@@ -164,57 +145,26 @@ def _bound(session: Session, about: Dict[str, Any], port: Optional[int], films: 
         if isinstance(error, socket.gaierror) or error.errno == errno.EADDRNOTAVAIL:
             raise OSError(error.errno or 0, "is no address of this computer", listen) from None
         if port is not None:
-            raise OSError(error.errno or 0, error.strerror or str(error), "port") from None
+            error.filename = "port"
+            raise
         return Server(session, about, 0, films, listen)
 
 
 def _is_shown(server: Server, open_page: bool, file: Optional[ScriptFile]) -> bool:
-    """Shows the page, and returns whether that went well. If the terminal is gone, the session ends, and its file takes the
-    script all the same; without a file `OSError` is raised."""
+    """Prints the address, and opens the page by an address of its own: other users of this computer see the words with which a
+    browser is started. Returns whether that went well: if the terminal is gone, the session ends, and its file takes the script
+    all the same; without a file `OSError` is raised."""
+    text = f"{server.address()}    (Control-C ends it)\n"
+    if "phones" in server.about:
+        _say("warning: plain HTTP: whoever listens on the network can read the address, and use the machine")
+        text += f"\n    On the phones of this network:\n\n    {server.address()}\n\n"
     try:
-        _show(server, open_page)
+        print_out(text)
     except OSError as error:
         if file is None:
             raise
         _say(f"{error.filename}: {error.strerror}")
         return False
-    return True
-
-
-def _show(server: Server, open_page: bool) -> None:
-    """Prints the address, and opens the page by an address of its own: other users of this computer see the words with
-    which a browser is started."""
-    if "phones" in server.about:
-        _say("warning: plain HTTP: whoever listens on the network can read the address, and use the machine")
-        print_out(f"{server.address}    (Control-C ends it)\n\n    On the phones of this network:\n\n    {server.address}\n\n")
-    else:
-        print_out(f"{server.address}    (Control-C ends it)\n")
     if open_page:
-        threading.Thread(target=webbrowser.open, args=(server.address_for_once(),), daemon=True).start()
-
-
-def _leave(ending: Ending, repeat: Repeat, file: Optional[ScriptFile], rope: str, form: Optional[str]) -> None:
-    """Saves or prints the script, before anything else is ended."""
-    status = UNSAVED
-    try:
-        with suppress(OSError):  # the terminal is gone
-            print(flush=True)
-        save_or_print(repeat, file, rope, form)
-        status = SAVED
-    finally:
-        ending.saved(status)
-
-
-def _close(server: Optional[Server], session: Session, films: Films) -> None:
-    """Ends all that a session has started."""
-    films.kill()
-    session.close()
-    if server is not None:
-        server.stop()
-    films.close()
-
-
-def _kill(console: agc.Console, films: Films) -> None:
-    """Kills the processes that a session has started."""
-    console.kill()
-    films.kill()
+        threading.Thread(target=webbrowser.open, args=(server.address(server.gate.token_for_once()),), daemon=True).start()
+    return True

@@ -5,7 +5,7 @@ import secrets
 import socket
 import threading
 from contextlib import suppress
-from typing import Dict, Optional, Set
+from typing import Dict, Set
 
 LETTERS = "abcdefghjkmnpqrstuvwxyz23456789"  # that are not taken for others
 SHORT = 10  # letters
@@ -42,9 +42,9 @@ class Gate:
     def lets_in(self, text: str) -> bool:
         """Whether a text is a token that lets a browser in; one for once is used up by that."""
         with self._lock:
-            found = next((token for token in self._once if _are_same(text, token)), None)
-            self._once.discard(found or "")
-        return found is not None or self.is_token(text)
+            found = {token for token in self._once if _are_same(text, token)}
+            self._once -= found
+        return bool(found) or self.is_token(text)
 
 
 class Room:
@@ -59,12 +59,11 @@ class Room:
         """Takes a connection in; the oldest stranger leaves if there are too many."""
         with self._lock:
             self._strangers[connection] = None
-            oldest: Optional[socket.socket] = next(iter(self._strangers)) if len(self._strangers) > MOST_STRANGERS else None
-            if oldest is not None:
+            if len(self._strangers) > MOST_STRANGERS:
+                oldest = next(iter(self._strangers))
                 del self._strangers[oldest]
-        if oldest is not None:
-            with suppress(OSError):
-                oldest.shutdown(socket.SHUT_RDWR)  # ends what its thread reads
+                with suppress(OSError):
+                    oldest.shutdown(socket.SHUT_RDWR)  # ends what its thread reads
 
     def know(self, connection: socket.socket) -> bool:
         """Notes that a connection has shown the token; returns whether there is room for it."""
@@ -76,7 +75,6 @@ class Room:
             return True
 
     def leave(self, connection: socket.socket) -> None:
-        """Notes that a connection has ended."""
         with self._lock:
             self._strangers.pop(connection, None)
             self._known.discard(connection)

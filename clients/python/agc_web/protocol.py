@@ -4,6 +4,7 @@ Nothing here touches a socket, a clock or a machine: bytes become packets, packe
 channel writes become packets. Channels, words and counters are written in octal.
 """
 
+import functools
 from typing import Dict, Iterator, List, Mapping, NamedTuple
 
 FIRST_CHANNEL = 0o5  # below it stand L, Q and the scaler, which no script sets
@@ -54,22 +55,15 @@ class Packet(NamedTuple):
     is_mask: bool = False
 
     def encode(self) -> bytes:
-        """Returns the four bytes, each with its place in its two upper bits."""
-        u_bit = 0x20 if self.is_mask else 0
-        return bytes((
-            u_bit | self.channel >> 3 & 0x1F,
-            0x40 | (self.channel & 7) << 3 | self.word >> 12 & 7,
-            0x80 | self.word >> 6 & 0x3F,
-            0xC0 | self.word & 0x3F,
-        ))
+        """Returns the four bytes: each has its place in its two upper bits, and below it the next six bits of the packet."""
+        bits = self.is_mask << 23 | self.channel << 15 | self.word
+        return bytes(place << 6 | bits >> 18 - 6 * place & 0x3F for place in range(4))
 
     @staticmethod
     def decode(data: bytes) -> "Packet":
         """Returns the packet of four bytes whose upper bits are right."""
-        first, second, third, fourth = data
-        channel = (first & 0x1F) << 3 | second >> 3 & 7
-        word = (second & 7) << 12 | (third & 0x3F) << 6 | fourth & 0x3F
-        return Packet(channel, word, bool(first & 0x20))
+        bits = functools.reduce(lambda before, byte: before << 6 | byte & 0x3F, data, 0)
+        return Packet(bits >> 15 & 0xFF, bits & ALL_BITS, bool(bits >> 23))
 
 
 class Fault(Exception):
@@ -80,21 +74,16 @@ class PacketReader:
     """Cuts a stream of bytes into packets, however it is divided."""
 
     def __init__(self) -> None:
-        self._begun = b""
-
-    @property
-    def is_halfway(self) -> bool:
-        """Whether a packet has begun and is not whole."""
-        return bool(self._begun)
+        self.begun = b""  # of a packet that is not whole
 
     def feed(self, data: bytes) -> List[Packet]:
         """Takes the next bytes, and returns the packets that are whole. Raises `Fault`, and returns none of them, if one of
         the bytes has not the upper bits of its place: this is no client of the protocol."""
-        begun = self._begun + data
+        begun = self.begun + data
         if any(byte >> 6 != at & 3 for at, byte in enumerate(begun)):
             raise Fault("it sends rubbish")
         end = len(begun) & ~3
-        self._begun = begun[end:]
+        self.begun = begun[end:]
         return [Packet.decode(begun[at:at + 4]) for at in range(0, end, 4)]
 
 
@@ -116,19 +105,15 @@ def commands_for(channel: int, word: int, before: int) -> List[str]:
         raise Inexpressible(f"channel {channel:o} takes no input: a script's begin at {FIRST_CHANNEL:o}")
     if channel == UPLINK:
         return [f"poke 0 {INLINK:o} {word:05o}", f"raise {INTERRUPTS[UPLINK]}"]
+    if channel == KEYBOARD and word in KEY_NAMES:
+        return [f"key {KEY_NAMES[word]}"]
     if channel in (KEYBOARD, SECOND_KEYBOARD) and word:  # 0 is a release
-        return _key(channel, word)
+        return [f"input {channel:o} {word:05o}", f"raise {INTERRUPTS[channel]}"]
     if word == before:
         return []
     if channel == PRO_CHANNEL and word ^ before == PRO:
         return ["pro up" if word & PRO else "pro down"]
     return [f"input {channel:o} {word:05o}"]
-
-
-def _key(channel: int, code: int) -> List[str]:
-    if channel == KEYBOARD and code in KEY_NAMES:
-        return [f"key {KEY_NAMES[code]}"]
-    return [f"input {channel:o} {code:05o}", f"raise {INTERRUPTS[channel]}"]
 
 
 def _pulse(counter: int, kind: int) -> str:

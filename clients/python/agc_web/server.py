@@ -8,7 +8,6 @@ has become. The session does what a request is for.
 import io
 import ipaddress
 import json
-import os
 import re
 import socket
 import sys
@@ -17,21 +16,22 @@ import time
 from contextlib import suppress
 from http import HTTPStatus
 from http.server import BaseHTTPRequestHandler, ThreadingHTTPServer
-from typing import Any, Callable, Dict, List, Optional, Tuple
+from typing import Any, Callable, Dict, List, Optional, Set, Tuple
 from urllib.parse import parse_qs, urlsplit
 
-from agc import Console, Ended, Refused
-from agc_web.film import Films
+from agc import Ended, Refused
+from agc_web.film import PAGE, Films
 from agc_web.gate import Gate, Room
+from agc_web.news import END, PING, Listener, accept_key, frame
 from agc_web.session import KEYS, NEWS, Session, Sure, Unable
-from agc_web.stream import END, PING, Listener, accept_key, frame
 
 HERE = "127.0.0.1"
 ANYWHERE = "0.0.0.0"
-PAGE = os.path.join(os.path.dirname(os.path.abspath(__file__)), "page")
 LONGEST_BODY = 4096  # bytes
-MOST_LOOKS = 64  # cells or channels of one look
-CELL = re.compile(r"([!-~]+)(?: ([2-6]))?\Z")  # a place, and how many cells from there on if it is not one
+MOST_LINES = 200  # for a console, of one request
+LINE = re.compile(r"([a-z]+)[ -~]{0,100}\Z")  # a console's command
+LOOKS = {"cell", "channel"}  # the commands that change nothing
+SEARCHES = {*LOOKS, "ahead", "back", "break", "continue", "next", "panel", "step"}  # those for a second console
 WHOLE = 10  # seconds that a whole request may take
 PATIENCE = 20  # seconds that a browser may take between two requests, or to take a part of an answer
 HEARTBEAT = 5  # seconds after which a quiet stream sends a ping, which shows whether its browser is still there
@@ -76,26 +76,21 @@ class Server(ThreadingHTTPServer):
         self.port = self.server_address[1]
         self.name = own_address() if listen == ANYWHERE else listen
         if is_reachable(listen):
-            self.about = {**about, "phones": self.address}
+            self.about = {**about, "phones": self.address()}
 
     def start(self) -> None:
         """Begins to serve, on a thread of its own."""
         self._thread.start()
 
-    def stop(self) -> None:
+    def server_close(self) -> None:
         """Ends to serve."""
         if self._thread.is_alive():
             self.shutdown()
-        self.server_close()
+        super().server_close()
 
-    @property
-    def address(self) -> str:
-        """The address of the page, with the token."""
-        return f"http://{self.name}:{self.port}/?token={self.gate.token}"
-
-    def address_for_once(self) -> str:
-        """Returns an address that lets one browser in, and none after it."""
-        return f"http://{self.name}:{self.port}/?token={self.gate.token_for_once()}"
+    def address(self, token: str = "") -> str:
+        """Returns the address of the page: with the token of all browsers, or with another one of the gate."""
+        return f"http://{self.name}:{self.port}/?token={token or self.gate.token}"
 
     def policy(self, address: str) -> str:
         """Returns what the page may load that came in at an address: files and news from here alone."""
@@ -124,18 +119,15 @@ class Server(ThreadingHTTPServer):
 
     def release(self, window: str) -> None:
         """Lets PRO and the buttons of instruments come up that a window that has gone held."""
-        for button, holder in list(self._held.items()):
-            if window and holder == window:
-                with suppress(Unable, Ended):
-                    self.hold(window, False, button)
+        for button in [button for button, holder in self._held.items() if window and holder == window]:
+            with suppress(Unable, Ended):
+                self.hold(window, False, button)
 
     def process_request(self, request: Any, client_address: Any) -> None:
-        """Starts a thread for a connection."""
         self.room.enter(request)
         super().process_request(request, client_address)
 
     def shutdown_request(self, request: Any) -> None:
-        """Ends a connection, and makes room again."""
         self.room.leave(request)
         super().shutdown_request(request)
 
@@ -152,25 +144,18 @@ class Reading(io.RawIOBase):
 
     def __init__(self, connection: socket.socket) -> None:
         self._connection = connection
-        self._end: Optional[float] = time.monotonic() + WHOLE  # None between two requests
-
-    def rest(self) -> None:
-        """Notes that a request was read: the next one may take its time to begin."""
-        self._end = None
+        self.end: Optional[float] = time.monotonic() + WHOLE  # None between two requests: the next one may take its time to begin
 
     def readable(self) -> bool:
-        """Says that this is a stream to be read."""
         return True
 
     def readinto(self, buffer: Any) -> int:
-        """Takes what comes next."""
-        left = PATIENCE if self._end is None else self._end - time.monotonic()
+        left = PATIENCE if self.end is None else self.end - time.monotonic()
         if left <= 0:
             raise socket.timeout("timed out")
         self._connection.settimeout(left)
         count = self._connection.recv_into(buffer)
-        if self._end is None:
-            self._end = time.monotonic() + WHOLE
+        self.end = self.end or time.monotonic() + WHOLE
         return count
 
 
@@ -187,7 +172,6 @@ class Handler(BaseHTTPRequestHandler):
     wbufsize = -1  # an answer leaves in one piece
 
     def setup(self) -> None:
-        """Begins with a connection."""
         super().setup()
         self.rfile.close()
         self._reading = Reading(self.connection)
@@ -199,16 +183,13 @@ class Handler(BaseHTTPRequestHandler):
         return str(self.connection.getsockname()[0])
 
     def handle_one_request(self) -> None:
-        """Answers one request."""
         super().handle_one_request()
-        self._reading.rest()
+        self._reading.end = None
 
     def do_GET(self) -> None:
-        """Answers with a file, the news, the script or a film."""
         self._answer(self._get)
 
     def do_POST(self) -> None:
-        """Does what a body of JSON requests."""
         self._answer(self._post)
 
     def log_message(self, format: str, *args: Any) -> None:
@@ -219,14 +200,11 @@ class Handler(BaseHTTPRequestHandler):
     def _answer(self, task: Callable[[str], None]) -> None:
         try:
             task(self._checked_path())
-        except BadRequest as bad:
-            self._send_json({"error": str(bad)}, bad.status)
-        except Sure as sure:
-            self._send_json({"error": str(sure), "sure": sure.count}, HTTPStatus.CONFLICT)
-        except (Unable, Ended) as unable:
-            self._send_json({"error": str(unable)}, HTTPStatus.CONFLICT)
-        except (Refused, ValueError) as fault:
-            self._send_json({"error": str(fault)}, HTTPStatus.BAD_REQUEST)
+        except Sure as fault:
+            self._send_json({"error": str(fault), "sure": fault.count}, HTTPStatus.CONFLICT)
+        except (BadRequest, Unable, Ended, Refused, ValueError) as fault:
+            usual = HTTPStatus.CONFLICT if isinstance(fault, (Unable, Ended)) else HTTPStatus.BAD_REQUEST
+            self._send_json({"error": str(fault)}, fault.status if isinstance(fault, BadRequest) else usual)
         except (ConnectionError, socket.timeout):
             self.close_connection = True
         except Exception as fault:  # our own
@@ -235,7 +213,6 @@ class Handler(BaseHTTPRequestHandler):
 
     def _checked_path(self) -> str:
         """Returns the path of a request that comes from our own page; refuses any other."""
-        parts = urlsplit(self.path)
         host, origin = self.headers.get("Host", ""), self.headers.get("Origin")
         if len(self.headers.get_all("Host", [])) != 1 or host not in self.server.hosts(self._address):
             raise self._closing(HTTPStatus.FORBIDDEN, "this is not our host")
@@ -243,11 +220,16 @@ class Handler(BaseHTTPRequestHandler):
             raise self._closing(HTTPStatus.FORBIDDEN, "this is not our origin")
         if self.headers.get("Sec-Fetch-Site", "none") not in ("none", "same-origin"):
             raise self._closing(HTTPStatus.FORBIDDEN, "this is not our page")
-        if not self._is_known(parts.path, parse_qs(parts.query).get("token", [""])[0]):
+        path = urlsplit(self.path).path
+        if not self._is_known(path, self._word("token")):
             raise self._closing(HTTPStatus.FORBIDDEN, "the token of the printed address is missing")
         if not self.server.room.know(self.connection):
             raise self._closing(HTTPStatus.SERVICE_UNAVAILABLE, "there are too many windows")
-        return parts.path
+        return path
+
+    def _word(self, name: str) -> str:
+        """Returns a word of the query; one that it lacks is empty."""
+        return parse_qs(urlsplit(self.path).query).get(name, [""])[0]
 
     def _is_known(self, path: str, token: str) -> bool:
         """Whether a request has the cookie, the token of the printed address, or for the page a token that is good once.
@@ -275,28 +257,29 @@ class Handler(BaseHTTPRequestHandler):
         try:
             body = json.loads(self.rfile.read(length))
         except (ValueError, RecursionError):
-            raise BadRequest(HTTPStatus.BAD_REQUEST, "the body is not JSON") from None
+            raise ValueError("the body is not JSON") from None
         if not isinstance(body, dict):
-            raise BadRequest(HTTPStatus.BAD_REQUEST, "the body is not an object")
+            raise ValueError("the body is not an object")
         return body
 
     def _send(self, body: bytes, kind: str, status: HTTPStatus = HTTPStatus.OK, **more: str) -> None:
-        """Sends an answer."""
-        self.connection.settimeout(PATIENCE)
-        headers = {
+        self._send_head(status, {
             "Content-Type": kind, "Content-Length": str(len(body)), "Cache-Control": "no-store",
             "Content-Security-Policy": self.server.policy(self._address),
             "Referrer-Policy": "no-referrer", "X-Content-Type-Options": "nosniff", "X-Frame-Options": "DENY",
             "Cross-Origin-Resource-Policy": "same-origin", "Cross-Origin-Opener-Policy": "same-origin",
             **{name.replace("_", "-"): value for name, value in more.items()},
-        }
-        if self.close_connection:
-            headers["Connection"] = "close"
+            **({"Connection": "close"} if self.close_connection else {}),
+        })
+        self._send_bytes(body)
+
+    def _send_head(self, status: HTTPStatus, headers: Dict[str, str]) -> None:
+        """Sends the head of an answer, of which the browser has to take each part in time."""
+        self.connection.settimeout(PATIENCE)
         self.send_response(status)
         for name, value in headers.items():
             self.send_header(name, value)
         self.end_headers()
-        self._send_bytes(body)
 
     def _send_json(self, value: Any, status: HTTPStatus = HTTPStatus.OK) -> None:
         try:
@@ -321,8 +304,8 @@ class Handler(BaseHTTPRequestHandler):
         elif path == "/source":
             self._send_json(self.server.source)
         elif path[1:] in NAMED.findall(_page()):
-            with open(os.path.join(PAGE, *path.split("/")), "rb") as file:
-                self._send(file.read(), TYPES[os.path.splitext(path)[1]])
+            file = PAGE / path[1:]
+            self._send(file.read_bytes(), TYPES[file.suffix])
         else:
             raise BadRequest(HTTPStatus.NOT_FOUND, "there is no such page")
 
@@ -331,8 +314,8 @@ class Handler(BaseHTTPRequestHandler):
         if self._is_entering:
             cookie = f"{self.server.cookie_name}={self.server.gate.cookie}; Path=/; HttpOnly; SameSite=Strict"
             self._send(b"", TYPES[".html"], HTTPStatus.SEE_OTHER, Location="/", Set_Cookie=cookie)
-            return
-        self._send(_page().encode(), TYPES[".html"])
+        else:
+            self._send(_page().encode(), TYPES[".html"])
 
     def _send_news(self) -> None:
         """Sends what changes, as long as the browser listens: at most fifty messages a second."""
@@ -340,18 +323,11 @@ class Handler(BaseHTTPRequestHandler):
             raise BadRequest(HTTPStatus.UPGRADE_REQUIRED, "the news come by a WebSocket")
         accepted = accept_key(self.headers.get("Sec-WebSocket-Key", ""))
         self.close_connection = True
-        self.connection.settimeout(PATIENCE)
-        self.send_response(HTTPStatus.SWITCHING_PROTOCOLS)
-        for name, value in (("Upgrade", "websocket"), ("Connection", "Upgrade"), ("Sec-WebSocket-Accept", accepted)):
-            self.send_header(name, value)
-        self.end_headers()
-        window = parse_qs(urlsplit(self.path).query).get("window", [""])[0]
-        listener = Listener(self.connection)
+        self._send_head(HTTPStatus.SWITCHING_PROTOCOLS, {"Upgrade": "websocket", "Connection": "Upgrade", "Sec-WebSocket-Accept": accepted})
         try:
-            self._send_until_left(listener)
+            self._send_until_left(Listener(self.connection))
         finally:
-            listener.close()
-            self.server.release(window)
+            self.server.release(self._word("window"))
 
     def _send_until_left(self, listener: Listener) -> None:
         """Sends the news until the browser has left or there are no more."""
@@ -369,7 +345,6 @@ class Handler(BaseHTTPRequestHandler):
         self.wfile.flush()
 
     def _send_film(self) -> None:
-        """Sends a film of the session so far."""
         repeat, views = self.server.session.repeat(), []
         with suppress(Unable):  # a machine that is busy has a film without them
             views = self.server.session.past_views()
@@ -378,11 +353,9 @@ class Handler(BaseHTTPRequestHandler):
     def _send_made(self, make: Callable[[], bytes]) -> None:
         """Sends a page that agc-study makes. It is separated from ours: it cannot reach this server."""
         try:
-            page = make()
+            self._send(make(), TYPES[".html"], Content_Security_Policy=FILM_POLICY)
         except Unable as unable:
             self._send(str(unable).encode(), "text/plain; charset=utf-8", HTTPStatus.CONFLICT)
-            return
-        self._send(page, TYPES[".html"], Content_Security_Policy=FILM_POLICY)
 
     # POST
 
@@ -391,23 +364,20 @@ class Handler(BaseHTTPRequestHandler):
         if path == "/do":
             name = body.get("do")
             if not isinstance(name, str) or name not in COMMANDS:
-                raise BadRequest(HTTPStatus.BAD_REQUEST, "there is no such command")
+                raise ValueError("there is no such command")
             COMMANDS[name](self.server, body)
             self._send_json({})
-        elif path == "/look":
-            self._send_json(look(self.server.session, body))
-        elif path == "/find":
-            self._send_json(found_before(self.server.session, body))
-        elif path == "/cause":
-            cycle, line = self.server.session.cause(texts_of(body))
-            self._send_json({"cycle": cycle, "line": line})
+        elif path == "/say":
+            self._send_json(self.server.session.say(lines_of(body, LOOKS)))
+        elif path == "/search":
+            before = item(body, "before", int) if "before" in body else None
+            self._send_json(self.server.session.search(lines_of(body, SEARCHES), before))
         else:
             raise BadRequest(HTTPStatus.NOT_FOUND, "there is no such page")
 
     # what is no request of ours
 
     def do_other(self) -> None:
-        """Refuses the other methods."""
         self.close_connection = True
         self._send_json({"error": "GET or POST"}, HTTPStatus.METHOD_NOT_ALLOWED)
 
@@ -430,9 +400,7 @@ class Handler(BaseHTTPRequestHandler):
 
 
 def _page() -> str:
-    """Returns the text of the page."""
-    with open(os.path.join(PAGE, "web", "index.html"), encoding="utf-8") as file:
-        return file.read()
+    return (PAGE / "web" / "index.html").read_text(encoding="utf-8")
 
 
 def is_reachable(address: str) -> bool:
@@ -457,13 +425,8 @@ def item(body: Dict[str, Any], name: str, kind: type) -> Any:
     """Returns an item of a body, which has to be of this type."""
     value = body.get(name)
     if type(value) is not kind:
-        raise BadRequest(HTTPStatus.BAD_REQUEST, f"{name} is missing, or of another type")
+        raise ValueError(f"{name} is missing, or of another type")
     return value
-
-
-def is_sure(body: Dict[str, Any]) -> bool:
-    """Returns whether the user was asked already."""
-    return body.get("sure") is True
 
 
 COMMANDS: Dict[str, Callable[[Server, Dict[str, Any]], None]] = {
@@ -473,11 +436,11 @@ COMMANDS: Dict[str, Callable[[Server, Dict[str, Any]], None]] = {
     "pause": lambda server, body: server.session.pause(),
     "speed": lambda server, body: server.session.set_speed(item(body, "times", int)),
     "step": lambda server, body: server.session.step(),
-    "over": lambda server, body: server.session.step_by_call("over"),
-    "finish": lambda server, body: server.session.step_by_call("finish"),
-    "go": lambda server, body: server.session.go_there(item(body, "cycle", int), is_sure(body)),
-    "back": lambda server, body: server.session.go_back_to_change(is_sure(body)),
-    "undo": lambda server, body: server.session.undo(is_sure(body)),
+    "over": lambda server, body: server.session.step_by_call(with_job("over", body)),
+    "finish": lambda server, body: server.session.step_by_call(with_job("finish", body)),
+    "go": lambda server, body: server.session.go_there(item(body, "cycle", int), body.get("sure") is True),
+    "back": lambda server, body: server.session.go_back_to_change(body.get("sure") is True),
+    "undo": lambda server, body: server.session.undo(body.get("sure") is True),
     "break": lambda server, body: server.session.add_breakpoint(item(body, "place", str)),
     "unbreak": lambda server, body: server.session.remove_breakpoint(item(body, "place", str)),
     "control": lambda server, body: server.hold(
@@ -493,59 +456,15 @@ def named_key(name: str) -> str:
     return name
 
 
-def look(session: Session, body: Dict[str, Any]) -> Dict[str, Any]:
-    """Returns the words that a window shows: an erasable bank, cells by their places or names, channels."""
-    bank, cells, channels = body.get("bank"), body.get("cells", []), body.get("channels", [])
-    if bank is not None and (type(bank) is not int or not 0 <= bank <= 7):
-        raise ValueError("bank is 0 to 7")
-    if not isinstance(cells, list) or not all(isinstance(each, str) for each in cells) or len(cells) > MOST_LOOKS:
-        raise ValueError(f"cells are up to {MOST_LOOKS} places")
-    if not isinstance(channels, list) or not all(type(each) is int and 0 <= each <= 0o777 for each in channels):
-        raise ValueError("channels are 0 to 511")
-    if len(channels) > MOST_LOOKS:
-        raise ValueError(f"up to {MOST_LOOKS} channels")
-
-    def words(console: Console) -> Dict[str, Any]:
-        return {
-            "cycle": console.cycle,
-            "bank": console.cells(f"E{bank},1400", 256) if bank is not None else None,
-            "cells": {place: word_at(console, place) for place in cells},
-            "channels": {str(each): console.channel(each) for each in channels},
-        }
-
-    if session.ended is not None:
-        raise Unable(session.ended)
-    found: Dict[str, Any] = session.inject(words)
-    return found
+def with_job(way: str, body: Dict[str, Any]) -> str:
+    """Returns a step by calls, in the present job alone if the body names the cell that tells jobs apart."""
+    return f"{way} job {item(body, 'job', str)}" if "job" in body else way
 
 
-def texts_of(body: Dict[str, Any]) -> List[str]:
-    """Returns what a search looks for."""
-    places: List[str] = item(body, "places", list)
-    if not all(isinstance(each, str) for each in places):
-        raise ValueError("places are texts")
-    return places
-
-
-def found_before(session: Session, body: Dict[str, Any]) -> Dict[str, int]:
-    """Returns where the last boundary was that hit one of these places, before a cycle if the body has one; or where a step back goes."""
-    if "step" in body:
-        if body["step"] not in ("step", "over", "finish"):
-            raise ValueError("a step is step, over or finish")
-        return {"cycle": session.find_step(body["step"])}
-    places, before = texts_of(body), body.get("before")
-    if before is not None and type(before) is not int:
-        raise ValueError("before is a cycle")
-    return session.find(places, before)._asdict()
-
-
-def word_at(console: Console, place: str) -> Any:
-    """Returns the word of a cell, or the words of `PLACE COUNT`, or why they cannot be read."""
-    found = CELL.match(place)
-    if not found:
-        return "a cell is one word"
-    try:
-        words = console.cells(found[1], int(found[2] or 1))
-        return words if found[2] else words[0]
-    except Refused as refused:
-        return str(refused)
+def lines_of(body: Dict[str, Any], commands: Set[str]) -> List[str]:
+    """Returns the lines of a body for a console, each of which is one of these commands."""
+    lines: List[str] = item(body, "lines", list)
+    found = [LINE.match(line) if isinstance(line, str) else None for line in lines]
+    if len(lines) > MOST_LINES or not all(each and each[1] in commands for each in found):
+        raise ValueError(f"lines are up to {MOST_LINES}, of {', '.join(sorted(commands))}")
+    return lines

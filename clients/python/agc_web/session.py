@@ -1,9 +1,9 @@
-"""The one machine behind the page: a console, the thread that owns it, and its clock.
+"""The one machine behind the page: a console, whose turn it is to use it, and its clock.
 
-A `Session` runs all commands to its console on one thread, the machine's thread. Other threads use `inject`, `on_write` and
-`repeat`. Each event that goes through the console, whoever gives it, is written into the session's journal. So the exported
-script repeats it, going back drops it, and undo brings it back. Reported writes come in pieces of at most 10 ms of
-machine time at the hardware's pace: an answer to a write is injected up to that much later than the write.
+A `Session` lets one thread at a time use the console. Other threads use `inject`, `on_write` and `repeat`. Each event that
+goes through the console, whoever gives it, is written into the session's journal. So the exported script repeats it, going
+back drops it, and undo brings it back. Reported writes come in pieces of at most 10 ms of machine time at the hardware's
+pace: an answer to a write is injected up to that much later than the write.
 
 `agc_web.ticks` says what an instrument is.
 """
@@ -12,25 +12,21 @@ import functools
 import re
 import time
 from collections import deque
-from typing import Any, Callable, Deque, List, NamedTuple, Optional, Sequence, Tuple, TypeVar, Union, cast
+from contextlib import suppress
+from typing import Any, Callable, Deque, Dict, Iterator, List, NamedTuple, Optional, Sequence, Tuple, TypeVar, Union, cast
 
 from agc import EVENTS, Answer, Console, Ended, Refused, Write
-from agc_web.breakpoints import Breakpoints
-from agc_web.causes import last_cause
-from agc_web.clock import SPEEDS, Clock
-from agc_web.journal import Event, Journal, Repeat
+from agc_web.journal import HISTORY, Event, Journal, Repeat
 from agc_web.keyboard import KEY_GAP, KEYS, Keyboard
 from agc_web.news import News
-from agc_web.rewinder import HISTORY, WARM_UP, Rewinder
-from agc_web.searcher import Found, checked, checked_place, end_of, last_hit, step_back
-from agc_web.ticks import Control, Mark, Past, Ticker, View
-from agc_web.worker import Unable, Worker
+from agc_web.searcher import Searcher, answers_to
+from agc_web.ticks import Control, Past, Ticker, View
+from agc_web.worker import SPEEDS, Clock, Unable, Worker
 
 __all__ = ["HISTORY", "KEYS", "KEY_GAP", "NEWS", "SPEEDS", "Session", "Sure", "Unable"]
 
 AHEAD = 12  # coming boundaries that are shown
 LONGEST_STEP = 1_000_000  # cycles that `over` and `finish` may take
-PRIORITY = 11  # the word of a core set that tells jobs apart
 MOST_BREAKPOINTS = 8
 MOST_WAITING = 100  # keys
 WAKE = 0.01  # seconds between two pieces
@@ -46,10 +42,10 @@ Method = TypeVar("Method", bound=Callable[..., Any])
 
 
 class Undo(NamedTuple):
-    """What going back dropped: from which tick of the instruments on, to which cycle it went back, from which cycle, the
-    events, and what instruments had."""
+    """What undo restores. The machine went back from the cycle `end` to `start`, its instruments to the tick at `since`. From
+    there on all may be other now: `events` and `past` are as they were."""
 
-    mark: Mark
+    since: int
     start: int
     end: int
     events: List[Event]
@@ -64,10 +60,17 @@ class Sure(Exception):
         self.count = count
 
 
+def _is_press(event: Event) -> bool:
+    """Whether the user gave an event. PRO coming up does not count: if its going down stays, going back lets it come up."""
+    return event.by_user and event.command != "pro up"
+
+
 def _on_machine(method: Method) -> Method:
-    """Has a method run on the machine's thread, whoever calls it."""
+    """Has a method run in the machine's turn, whoever calls it. It raises `Unable` if the console has ended."""
     @functools.wraps(method)
     def run(self: "Session", *words: Any, **named: Any) -> Any:
+        if self.ended is not None:
+            raise Unable(self.ended)
         return self.call(lambda: method(self, *words, **named))
 
     return cast(Method, run)
@@ -83,46 +86,42 @@ class Session:
         self.console = console
         self.watch = watch
         self.playing = False
-        self.ended: Optional[str] = None
-        """Why the console has ended, if it has."""
-        self.trouble = ""
-        """What went wrong last, for the user."""
-        self.hit = ""
-        """The breakpoint at which the machine stands, if any."""
+        self.ended: Optional[str] = None  # why the console has ended, if it has
+        self.trouble = ""  # what went wrong last, for the user
+        self.hit = ""  # the breakpoint at which the machine stands, if any
         self.furthest = 0
-        self.journal = Journal(console.script())
+        self.journal = Journal(console, self._replay)
         self.news = News()
         self._clock = Clock()
         self._keyboard = Keyboard()
-        self._breakpoints = Breakpoints(console)
+        self._breakpoints: Dict[str, int] = {}  # the console's numbers, by the texts of the user
+        self._searcher = Searcher(console)
         self._ticker = Ticker(instruments)
-        self._rewinder = Rewinder(console, self.journal, self._replay)
         self._undo: List[Undo] = []
         self._callbacks: List[Callable[[Write], None]] = []
         self._givers: Deque[bool] = deque()  # of the events that are being given again: whether they are the user's
-        self._last_change: Any = None  # the last panel change that was looked for: the cycle, the events, what was found
         self._is_dirty = True
         self._looked = self._look_took = 0.0  # when the last look began, and how long it took
         self._worker = Worker(self._work, self._note_end)
         console.on_answer = self._answered
         self._look()
-        self._worker.start()
+        self._worker.thread.start()
 
     # for other threads
 
     def call(self, task: Callable[[], Any]) -> Any:
-        """Runs a task on the machine's thread, and returns what it returns."""
+        """Runs a task as soon as nobody else uses the machine, and returns what it returns."""
         return self._worker.call(task)
 
     def inject(self, task: Callable[[Console], Any]) -> Any:
-        """Runs task(console) on the machine's thread, between two boundaries, as soon as it can, and returns what the task
-        returns; the task may press keys, send pulses, read cells .."""
+        """Runs task(console) between two boundaries, as soon as nobody else uses the machine, and returns what the task returns;
+        the task may press keys, send pulses, read cells .."""
         return self.call(lambda: task(self.console))
 
     def on_write(self, callback: Callable[[Write], None]) -> None:
-        """Calls callback(write) on the machine's thread for each channel write from now on, in order, with an `agc.Write` (cycle,
-        channel, value). Writes that are run again as time goes back are not reported. The callback has to be quick; it may call
-        `inject`, which then runs at once."""
+        """Calls callback(write) for each channel write from now on, in order, with an `agc.Write` (cycle, channel, value). Writes
+        that are run again as time goes back are not reported. Nobody else uses the machine meanwhile, so the callback has to be
+        quick; it may call `inject`, which then runs at once."""
         self._callbacks.append(callback)
 
     def script(self) -> str:
@@ -135,61 +134,47 @@ class Session:
 
     @property
     def is_alive(self) -> bool:
-        """Whether the machine's thread runs."""
+        """Whether time can run."""
         return self._worker.thread.is_alive()
-
-    @property
-    def waiting(self) -> int:
-        """How many keys wait."""
-        return len(self._keyboard.waiting)
 
     @property
     def breakpoints(self) -> List[str]:
         """The breakpoints, as they were given."""
-        return self._breakpoints.texts
+        return list(self._breakpoints)
 
     @property
     def history(self) -> List[str]:
         """The last boundaries, if time stands."""
-        return list(self._rewinder.history)
+        return list(self.journal.history)
 
     def close(self) -> None:
         """Ends the machine's thread and the console, in a second whatever they do. The script stays."""
+        self._searcher.close()
         self._worker.close(self.console.kill)
         self.console.kill()
         self.console.close()
         self.news.close()
 
-    # the machine's thread
+    # in the machine's turn
 
     def _work(self) -> None:
-        """Lets time run, and shows what is new."""
-        self._guarded(self._go_on)
-        self._guarded(self._look_if_due)
-        self._worker.wait = WAKE if self.playing else RESTING
-
-    def _guarded(self, task: Callable[[], None]) -> None:
-        """Runs a part of the clock's work. What goes wrong stops time and is shown."""
+        """Lets time run, and shows what is new. What goes wrong stops time and is shown."""
         try:
-            task()
-        except Ended as ended:
-            self._note_end(ended)
+            self._go_on()
+            soon = max(NEWS if self._is_dirty else QUIET_NEWS, LOOK_SHARE * self._look_took)
+            if self.playing and time.monotonic() - self._looked >= soon:
+                self._look()
+        except Ended:
+            raise
         except Exception as error:  # of an instrument, or of a full script
             self.trouble = str(error) or repr(error)
-            self._guarded_stand()
-
-    def _guarded_stand(self) -> None:
-        """Stops the clock after a fault, and shows where the machine stands."""
-        try:
             self._stand()
-            self._look()
-        except Ended as ended:
-            self._note_end(ended)
-        except Exception:  # the first fault is shown; the thread continues, so that the script can be saved
+            with suppress(Exception):  # the first fault is shown; the thread continues, so that the script can be saved
+                self._look_inside()
             self._publish_time()
+        self._worker.wait = WAKE if self.playing else RESTING
 
     def _note_end(self, ended: Ended) -> None:
-        """Notes that the console has ended; time stops."""
         self.playing = False
         if self.ended is None:
             self.ended = f"agc-console has ended: {ended}"
@@ -201,11 +186,12 @@ class Session:
         if word in EVENTS:
             cycle = answer.cycle - (word == "pulse")
             by_user = self._givers.popleft() if self._givers else not self._ticker.is_ticking
-            self.journal.add(Event(cycle, command, by_user))
+            self.journal.events.append(Event(cycle, command, by_user))
             self._is_dirty = True
         self.journal.note(answer.cycle, answer.stop)
         if self.journal.is_replaying or word == "ahead":
             return
+        self.furthest = max(self.furthest, answer.cycle)
         for line in answer.lines:
             write = WRITTEN.match(line)
             if write:
@@ -216,9 +202,7 @@ class Session:
 
     def _replay(self, events: List[Event]) -> None:
         """Gives events to the console once more, each at its cycle, for whoever gave them."""
-        commands: List[str] = []
-        for event in events:
-            commands += [f"go to {event.cycle}", event.command]
+        commands = [line for event in events for line in (f"go to {event.cycle}", event.command)]
         self._givers.extend(event.by_user for event in events)
         try:
             self.console.say_all(commands)
@@ -237,24 +221,35 @@ class Session:
         self._advance(self._clock.due(here))
         self._clock.measure(time.monotonic() - began, self.console.cycle - here, self.console.cycle)
         if self.console.stop is not None:
-            self._stand_at_stop()
+            self._keyboard.waiting.clear()
+            self._stand_here()
 
     def _advance(self, target: int) -> None:
-        """Goes on to a cycle, with the keys that wait, the ticks of instruments and the breakpoints on the way."""
-        while self.playing and self.console.stop is None and self.console.cycle < target:
-            self._press_due()
-            self._ticker.tick_due(self.console)
-            hit = self._breakpoints.go_to(min([target, *self._next_cycles()]))
+        """Goes on to a cycle, or to the first breakpoint before it, with keys and ticks on the way."""
+        for stage in self._stages(target, with_keys=True):
+            hit = self._hit_before(stage)
             if hit is not None:
-                self._stand()
-                self._show_anew()
-                self.hit = hit
-                self._look()
-        self.furthest = max(self.furthest, self.console.cycle)
+                self._stand_here(hit)
+            if not self.playing:
+                break
 
-    def _next_cycles(self) -> List[int]:
-        """Returns the cycles at which a key or a tick is due next."""
-        return [*self._keyboard.next_cycles(self.console.cycle), *self._ticker.next_cycles()]
+    def _hit_before(self, cycle: int) -> Optional[str]:
+        """Goes on to a cycle, or to the first breakpoint before it, and returns that one."""
+        if not self._breakpoints:
+            self.console.go_to(cycle)
+            return None
+        hit = self.console.continue_(cycle - self.console.cycle).breakpoint
+        return next((text for text, number in self._breakpoints.items() if hit and hit.number == number), None)
+
+    def _stages(self, target: int, with_keys: bool) -> Iterator[int]:
+        """Yields the cycles to which to go on one after another, up to a target: those at which a key or a tick is due. These are
+        pressed and ticked."""
+        while self.console.cycle < target and self.console.stop is None:
+            if with_keys:
+                self._press_due()
+            self._ticker.tick_due(self.console)
+            keys = self._keyboard.next_cycles(self.console.cycle) if with_keys else []
+            yield min([target, *keys, *self._ticker.next_cycles()])
 
     @_on_machine
     def play(self) -> None:
@@ -268,44 +263,33 @@ class Session:
 
     @_on_machine
     def pause(self) -> None:
-        """Stops time. The boundaries that are shown are a hundred more, which take some milliseconds of machine time; with
-        breakpoints, which they might run past, they are found by running anew."""
-        if not self.playing:
-            return
-        self._stand()
-        if self.breakpoints:
-            self._show_anew()
-        else:
-            self._rewinder.history.clear()
-            self._rewinder.history.extend(self.console.step(HISTORY))
-            self.furthest = max(self.furthest, self.console.cycle)
-        self._look()
+        """Stops time."""
+        if self.playing:
+            self._stand_here()
 
     def _stand(self) -> None:
-        """Stops the clock."""
         self.playing = False
         self._clock.pace = 0.0
 
-    def _stand_at_stop(self) -> None:
-        """Shows the way to a stop of the machine: its last boundaries are run once more."""
+    def _stand_here(self, hit: str = "") -> None:
+        """Stops time, and shows the last boundaries. `hit` is the breakpoint that stopped it, if any."""
         self._stand()
-        self._keyboard.waiting.clear()
-        self._rewinder.go_to(self.console.cycle, self.journal.events)
-        history = self._rewinder.history
-        while not history or " - stop " not in history[-1]:
-            history.extend(self.console.step())
-        self._show_rewound()
+        self._show_anew()
+        self.hit = hit
         self._look()
 
     def _show_anew(self) -> None:
-        """Finds the last boundaries by running them once more."""
-        self._rewinder.go_to(self.console.cycle, self.journal.events)
-        self._show_rewound()
+        """Finds the last boundaries by running them once more, up to the stop if the machine had stopped."""
+        has_stopped = self.console.stop is not None
+        self._go_to(self.console.cycle, self.journal.events)
+        while has_stopped and " - stop " not in (self.journal.history or [""])[-1]:
+            self.journal.history.extend(self.console.step())
 
-    def _show_rewound(self) -> None:
-        """Finds anew what is kept of the machine, after it was taken to another cycle."""
+    def _go_to(self, cycle: int, events: List[Event], since: Optional[int] = None) -> None:
+        """Takes the machine to a cycle, as the journal does, and finds anew what is kept of it."""
+        self.journal.go_to(cycle, events, since)
         self._is_dirty = True
-        self._keyboard.find(self.journal.events)
+        self._keyboard.find(events)
 
     @_on_machine
     def set_speed(self, times: int) -> None:
@@ -320,8 +304,7 @@ class Session:
     def step(self) -> None:
         """Goes on by one boundary; time stops."""
         self._begin_step()
-        self._rewinder.history.extend(self.console.step())
-        self.furthest = max(self.furthest, self.console.cycle)
+        self.journal.history.extend(self.console.step())
         self._look()
 
     def _begin_step(self) -> None:
@@ -335,24 +318,25 @@ class Session:
 
     @_on_machine
     def step_by_call(self, way: str) -> None:
-        """Goes on by `over` or `finish`, as the console has them; time stops. Keys that wait go on waiting. If instruments tick on the way,
-        it goes on farther and farther until the script shows the end, and back to there."""
+        """Goes on by the console's `over` or `finish`; time stops. Keys that wait go on waiting. If instruments tick on the way, it goes on
+        farther and farther until the script shows the end, and back to there."""
         self._begin_step()
-        cycle, comes = self.console.cycle, self.console.next()
+        cycle, comes, furthest = self.console.cycle, self.console.next(), self.furthest
         length = min([LONGEST_STEP, *(tick - cycle for tick in self._ticker.next_cycles())])
-        came, end = self._end_of(way, cycle, comes, length)
-        while not came and length < LONGEST_STEP and self.console.stop is None:
+        while True:
+            answer, = self._searcher.answers(self.script(), cycle, comes, [f"{way} within {length}"])
+            if "error" in answer:
+                raise ValueError(answer["error"])
+            came = "came yes" in answer["lines"]
+            if came or length == LONGEST_STEP or self.console.stop is not None:
+                break
             length = min(LONGEST_STEP, 4 * length)
             self._run_to(cycle + length)
-            came, end = self._end_of(way, cycle, comes, length)
-        self._come_to(end)
+        self._come_to(answer["cycle"])
+        self.furthest = max(furthest, self.console.cycle)
         if not came:
-            self.trouble = f"{way} did not come to its end in {LONGEST_STEP:,} cycles"
+            self.trouble = f"{way.split()[0]} did not come to its end in {LONGEST_STEP:,} cycles"
         self._look()
-
-    def _end_of(self, way: str, cycle: int, comes: str, length: int) -> Tuple[bool, int]:
-        """Returns whether a step that was begun at a cycle has ended within so many cycles, as far as the script goes, and the cycle then."""
-        return end_of(self.console, self.script(), cycle, comes, f"{way}{self._job()} within {length}")
 
     def _come_to(self, cycle: int) -> None:
         """Goes on to a cycle, or back to it, which no undo brings back."""
@@ -364,31 +348,8 @@ class Session:
         else:
             self._run_to(cycle)
             self._show_anew()
-        self.furthest = max(self.furthest, self.console.cycle)
-
-    def _job(self) -> str:
-        """Returns the words after `over` and `finish` that tell the Executive's jobs apart, if its tables are known."""
-        if self.watch is None:
-            return ""
-        bank, offset = (int(number, 8) for number in self.watch.split(",")[:2])
-        bank, offset = divmod(0o400 * bank + offset + PRIORITY, 0o400)
-        return f" job E{bank},{0o1400 + offset:o}"
-
-    @_on_machine
-    def find_step(self, way: str) -> int:
-        """Returns the cycle to which the console's `back step`, `back over` or `back finish` goes from here; the machine stays where it is."""
-        self._want_console()
-        cycle = step_back(self.console, self.script(), way if way == "step" else way + self._job())
-        if cycle is None:
-            raise Unable("nothing comes before this" if way == "step" else "there is no call to go back to")
-        return cycle
-
-    def _want_console(self) -> None:
-        if self.ended is not None:
-            raise Unable(self.ended)
 
     def _want_machine(self) -> None:
-        self._want_console()
         if self.console.stop is not None:
             raise Unable(f"the machine has stopped ({self.console.stop}): go back first")
 
@@ -402,7 +363,7 @@ class Session:
         self._want_machine()
         if name == "PRO up" and not self._keyboard.pro_comes_down:
             return
-        if self.waiting >= MOST_WAITING:
+        if len(self._keyboard.waiting) >= MOST_WAITING:
             raise Unable(f"{MOST_WAITING} keys wait already")
         self._keyboard.waiting.append(name)
         self._press_due()
@@ -411,19 +372,14 @@ class Session:
 
     def _press_due(self) -> None:
         """Presses the key that waits first, if the key before it was long enough ago."""
-        if not self._keyboard.is_due(self.console.cycle):
-            return
-        name = self._keyboard.waiting[0]
         try:
-            self._keyboard.press_next(self.console)
+            if self._keyboard.press_due(self.console) and not self.playing:
+                last = self.journal.events[-1]
+                self.journal.history.append(f"{last.cycle} - {last.command}")
         except Refused as refused:
+            self.trouble = str(refused)
             self._keyboard.waiting.clear()
-            self.trouble = f"{name} was not taken: {refused}"
             self._publish_time()
-            return
-        if not self.playing:
-            last = self.journal.events[-1]
-            self._rewinder.history.append(f"{last.cycle} - {last.command}")
 
     @_on_machine
     def control(self, number: int, name: str, down: bool) -> None:
@@ -437,7 +393,6 @@ class Session:
     def go_there(self, cycle: int, sure: bool = False) -> None:
         """Goes back to a cycle, or on to one that was reached before; time stops. Raises `Sure` if going back drops events
         and the user was not asked."""
-        self._want_console()
         if cycle < self.console.cycle:
             self._go_back(max(0, cycle), sure)
         elif self.console.cycle < self.furthest:
@@ -449,53 +404,43 @@ class Session:
     def go_back_to_change(self, sure: bool = False) -> None:
         """Goes back to before the last change of the panel; time stops. Raises `Sure` as `go_there` does, and `Unable` if the
         panel has not changed yet."""
-        self._want_console()
-        now = (self.console.cycle, len(self.journal.events), len(self._undo))
-        if self._last_change is None or self._last_change[0] != now:
-            self._last_change = (now, self._rewinder.last_change())
-        cycle = self._last_change[1]
+        cycle = self.journal.last_change()
         if cycle is None:
             raise Unable("the panel has not changed before now")
         self._go_back(cycle, sure)
 
     def _go_ahead(self, cycle: int) -> None:
-        """Goes on to a cycle as fast as it can, with keys and ticks on the way, and keeps the last boundaries."""
+        """Goes on to a cycle as fast as it can, with keys and ticks on the way."""
         self._want_machine()
         self._stand()
-        self.hit = self.trouble = ""
-        if cycle - self.console.cycle > WARM_UP:
-            self._rewinder.history.clear()
-        while self.console.cycle < cycle and self.console.stop is None:
-            self._press_due()
-            self._ticker.tick_due(self.console)
-            stage = min([cycle, *self._next_cycles()])
-            self.console.go_to(max(self.console.cycle, min(stage, cycle - WARM_UP)))
-            if self.console.cycle >= cycle - WARM_UP:
-                self._rewinder.step_to(stage)
-        self._look()
+        self.trouble = ""
+        self._run_to(cycle, with_keys=True)
+        self._stand_here()
 
     def _go_back(self, cycle: int, sure: bool) -> None:
         """Goes back to a cycle, and drops what was injected since. Instruments go back to the tick before, and from there on
         again: what the user had given on the way is given once more."""
         mark = self._ticker.mark_before(cycle)
-        start, end = mark[1], self.console.cycle
-        dropped = [event for event in self.journal.events if event.cycle >= start]
-        count = sum(event.by_user and event.cycle >= cycle for event in dropped) + self.waiting
-        count += self._ticker.pressed_since(cycle)
-        if count and not sure:
-            raise Sure(count)
+        start, end, events, waiting = mark.cycle, self.console.cycle, self.journal.events, self._keyboard.waiting
+        pressed = sum(_is_press(event) and event.cycle >= cycle for event in events)
+        self._want_consent(sure, pressed + sum(name != "PRO up" for name in waiting), cycle)
         self._stand()
-        self._keyboard.waiting.clear()
+        waiting.clear()
         self.hit = self.trouble = ""
-        self._rewinder.go_to(start, [event for event in self.journal.events if event.cycle < start])
+        self._go_to(start, [event for event in events if event.cycle < start])
         past = self._ticker.go_back(mark)
-        self._undo.append(Undo(mark, cycle, end, dropped, past))
+        self._undo.append(Undo(start, cycle, end, events, past))
         if start < cycle:
-            self._repeat(dropped, past.controls, cycle)
-        self._show_rewound()
+            self._repeat([event for event in events if event.cycle >= start], past.dropped, cycle)
         if self._keyboard.pro_down:
             self._keyboard.release_pro(self.console)
         self._look()
+
+    def _want_consent(self, sure: bool, count: int, cycle: int) -> None:
+        """Raises `Sure` if events (their count), or buttons that went down from a cycle on, would be dropped without consent."""
+        count += self._ticker.pressed_since(cycle)
+        if count and not sure:
+            raise Sure(count)
 
     def _repeat(self, events: List[Event], controls: List[Control], end: int) -> None:
         """Goes on from a tick of the past to a cycle: instruments give their events again, the user's come from here."""
@@ -512,51 +457,26 @@ class Session:
             else:
                 self._ticker.tick_due(self.console)  # an event of this tick came before what the user gave here
         self._run_to(end)
-        self._rewinder.go_to(self.console.cycle, self.journal.events)
+        self._show_anew()
 
-    def _run_to(self, cycle: int) -> None:
+    def _run_to(self, cycle: int, with_keys: bool = False) -> None:
         """Goes on to a cycle, with the ticks on the way."""
-        while self.console.cycle < cycle and self.console.stop is None:
-            self._ticker.tick_due(self.console)
-            self.console.go_to(min([cycle, *self._ticker.next_cycles()]))
-
-    @_on_machine
-    def find(self, places: List[str], before: Optional[int] = None) -> Found:
-        """Returns the last boundary before a cycle, or before now, that hits one of these places, in the words of the console's
-        `back until`; the machine stays where it is. Raises `Refused` for what is no place, `Unable` if there is no hit."""
-        places = checked(places)
-        self._want_console()
-        here = self.console.cycle if before is None else max(0, min(before, self.console.cycle))
-        found = last_hit(self.console, self.script(), here, places)
-        if found is None:
-            raise Unable(f"{' or '.join(places)} was not hit before cycle {here}")
-        return found
-
-    @_on_machine
-    def cause(self, texts: List[str]) -> Tuple[int, Optional[str]]:
-        """Returns where the machine stands, and the line of the boundary that changed one of these last, as `last_cause` has them; None if
-        nothing has."""
-        texts = checked(texts)
-        self._want_console()
-        return self.console.cycle, last_cause(self.console, self.script(), texts)
+        for stage in self._stages(cycle, with_keys):
+            self.console.go_to(stage)
 
     @_on_machine
     def undo(self, sure: bool = False) -> None:
         """Restores what the last going back dropped."""
-        self._want_console()
         if not self._undo:
             raise Unable("there is nothing to undo")
         undo = self._undo[-1]
-        count = sum(event.by_user for event in self.journal.events if event.cycle >= undo.start and "pro up" != event.command)
-        count += self._ticker.pressed_since(undo.start)
-        if count and not sure:
-            raise Sure(count)
+        since = [event for event in self.journal.events if event.cycle >= undo.start]
+        self._want_consent(sure, sum(map(_is_press, since)), undo.start)
         self._undo.pop()
         self._stand()
         self._keyboard.waiting.clear()
-        self._rewinder.restore(undo.mark[1], undo.events, undo.end)
-        self._show_rewound()
-        self._ticker.restore(undo.past, undo.mark)
+        self._go_to(undo.end, undo.events, undo.since)
+        self._ticker.restore(undo.past)
         self._look()
 
     # breakpoints
@@ -564,35 +484,42 @@ class Session:
     @_on_machine
     def add_breakpoint(self, text: str) -> None:
         """Adds a breakpoint: PLACE, `write CCC` or `cell PLACE`, in the words of the console's `break`."""
-        text = checked_place(text)
+        text = " ".join(text.split())
         if text in self.breakpoints:
             return
-        self._want_console()
         if len(self.breakpoints) >= MOST_BREAKPOINTS:
             raise Unable(f"there are {MOST_BREAKPOINTS} breakpoints already")
-        self._breakpoints.add(text)
+        self._breakpoints[text] = self.console.break_at(text).number
         self._publish_time()
 
     @_on_machine
     def remove_breakpoint(self, text: str) -> None:
-        """Removes a breakpoint."""
-        self._want_console()
-        self._breakpoints.remove(text)
+        if text in self._breakpoints:
+            self.console.delete(self._breakpoints.pop(text))
         self._publish_time()
 
     # what the page is shown
 
     @_on_machine
+    def say(self, lines: List[str]) -> Dict[str, Any]:
+        """Says lines that change nothing to the console. Returns the cycle, and the `answers` as `answers_to` does."""
+        return {"cycle": self.console.cycle, "answers": answers_to(self.console, lines)}
+
+    def search(self, lines: List[str], before: Optional[int] = None) -> Dict[str, Any]:
+        """Says lines to a second console with the session's script: before a cycle of the past or, if none is named, where the machine
+        stands, which stays there. Returns the cycle at which it stands, and the `answers`."""
+        cycle, comes, script = self._now()
+        place = (cycle, comes) if before is None else (max(0, min(before, cycle)), None)
+        return {"cycle": cycle, "answers": self._searcher.answers(script, *place, lines)}
+
+    @_on_machine
+    def _now(self) -> Tuple[int, str, str]:
+        return self.console.cycle, self.console.next(), self.script()
+
     def past_views(self) -> List[View]:
         """Returns what the instruments showed from the beginning on, for a film."""
-        return self._ticker.past_views(self.console.cycle)
-
-    def _look_if_due(self) -> None:
-        """Looks at the machine if time has gone by: soon where something was written."""
-        since = time.monotonic() - self._looked
-        soon = max(NEWS if self._is_dirty else QUIET_NEWS, LOOK_SHARE * self._look_took)
-        if self.playing and since >= soon:
-            self._look()
+        views: List[View] = self.call(lambda: self._ticker.past_views(self.console.cycle))
+        return views
 
     def _look(self) -> None:
         """Looks at the machine, and publishes what it shows."""
@@ -617,12 +544,11 @@ class Session:
         self.news.publish("ahead", self.console.ahead(AHEAD) if stands and self.console.stop is None else [])
 
     def _publish_time(self) -> None:
-        """Publishes where time stands."""
         self.news.publish("breakpoints", self.breakpoints)
         self.news.publish("time", {
-            "cycle": self.console.cycle, "furthest": max(self.furthest, self.console.cycle), "playing": self.playing,
+            "cycle": self.console.cycle, "furthest": self.furthest, "playing": self.playing,
             "speed": self._clock.speed, "pace": round(self._clock.pace, 2), "stop": self.console.stop, "ended": self.ended,
-            "trouble": self.trouble, "hit": self.hit, "waiting": self.waiting, "pro": self._keyboard.pro_comes_down,
-            "events": len(self.journal.events), "limit": self.journal.limit(),
+            "trouble": self.trouble, "hit": self.hit, "waiting": len(self._keyboard.waiting), "pro": self._keyboard.pro_comes_down,
+            "events": len(self.journal.events), "limit": self.journal.point.limit,
             "undo": self._undo[-1].end if self._undo else None,
         })

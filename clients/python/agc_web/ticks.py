@@ -23,8 +23,7 @@ at most, of 1,000 points each. examples/descent/side_view.py draws a flight.
 """
 
 import json
-from collections import deque
-from typing import Any, Deque, Dict, List, NamedTuple, Sequence, Tuple
+from typing import Any, Dict, List, NamedTuple, Sequence, Tuple
 
 from agc import Console
 
@@ -32,9 +31,16 @@ MOST_BYTES = 65536  # of a view: the page gets up to fifty a second
 FILMED = 10  # ticks between two views of a film
 MOST_FILMED = 3000  # views of a film
 FILM_PARTS = ("title", "outcome", "drawing", "dial", "rows")  # of a view
+KEPT = ((1, 1000), (10, 2000), (100, 10 ** 10))  # the ticks from one state that is kept to the next, and how many are kept
 
-Mark = Tuple[int, int, List[Any]]
-"""A tick of the instruments: its number, its cycle, and their states before it."""
+
+class Mark(NamedTuple):
+    """A tick of the instruments: its number, its cycle, and their states before it."""
+
+    tick: int
+    cycle: int
+    states: List[Any]
+
 
 View = Tuple[int, List[Dict[str, Any]]]
 """What instruments showed from a cycle on."""
@@ -51,23 +57,24 @@ class Control(NamedTuple):
 
 
 class Past(NamedTuple):
-    """What going back drops of the instruments: their states, how many ticks there were, marks, and buttons."""
+    """The instruments before they went back: their states, how many ticks there were, the marks, the buttons that are kept and those
+    that are not."""
 
     states: List[Any]
     ticks: int
     marks: List[Mark]
-    controls: List[Control]
+    kept: List[Control]
+    dropped: List[Control]
 
 
 class Ticker:
-    """Ticks the instruments. It is used by the machine's thread alone."""
+    """Ticks the instruments. It is used in the machine's turn alone."""
 
     def __init__(self, instruments: Sequence[Any]) -> None:
         self.instruments = list(instruments)
-        self.is_ticking = False
-        """Whether an instrument gives events at the moment."""
+        self.is_ticking = False  # whether an instrument gives events at the moment
         self._ticks = 0
-        self._marks = Marks()
+        self._marks: List[Mark] = []
         self._controls: List[Control] = []
 
     def next_cycles(self) -> List[int]:
@@ -78,8 +85,10 @@ class Ticker:
         """Ticks the instruments, if their time has come."""
         if not self.instruments or console.cycle < _cycle_of_tick(self._ticks):
             return
-        self._marks.add(self._ticks, console.cycle, self._states())
+        self._marks.append(Mark(self._ticks, console.cycle, self._states()))
         self._ticks += 1
+        if self._ticks % KEPT[0][1] == 0:
+            self._marks = [mark for mark in self._marks if _is_kept(mark.tick, self._ticks)]
         self.is_ticking = True
         try:
             for instrument in self.instruments:
@@ -103,40 +112,37 @@ class Ticker:
 
     def mark_before(self, cycle: int) -> Mark:
         """Returns the tick to which the instruments go back for a cycle; the cycle itself if there are none."""
-        return self._marks.before(cycle) if self.instruments else (0, cycle, [])
+        if not self.instruments:
+            return Mark(0, cycle, [])
+        return next((mark for mark in reversed(self._marks) if mark.cycle <= cycle), Mark(0, 0, []))
 
     def go_back(self, mark: Mark) -> Past:
-        """Takes the instruments back to a tick, and returns what that drops."""
-        number, cycle, states = mark
-        controls = [control for control in self._controls if _is_after(control, mark)]
-        past = Past(self._states(), self._ticks, self._marks.taken_from(number), controls)
-        self._controls = [control for control in self._controls if not _is_after(control, mark)]
-        self._load(states)
-        self._ticks = number
+        """Takes the instruments back to a tick, and returns how they were before. A button at the mark's own cycle went down or came up
+        before its states were taken, unless the tick had happened."""
+        kept = [each for each in self._controls if (each.cycle, each.ticks) <= (mark.cycle, mark.tick)]
+        past = Past(self._states(), self._ticks, self._marks, kept, self._controls[len(kept):])
+        self._load(mark.states)
+        self._ticks, self._marks, self._controls = mark.tick, [each for each in self._marks if each.tick < mark.tick], list(kept)
         return past
 
-    def restore(self, past: Past, mark: Mark) -> None:
-        """Restores what going back to a tick has dropped."""
+    def restore(self, past: Past) -> None:
+        """Restores the instruments as they were before they went back."""
         self._load(past.states)
-        self._marks.taken_from(mark[0])
-        self._marks.put_back(past.marks)
-        self._controls = [control for control in self._controls if not _is_after(control, mark)] + past.controls
-        self._ticks = past.ticks
+        self._ticks, self._marks, self._controls = past.ticks, past.marks, [*past.kept, *past.dropped]
 
     def views(self) -> List[Any]:
-        """Returns what the instruments show."""
         return [_view_of(each) for each in self.instruments]
 
     def past_views(self, cycle: int) -> List[View]:
         """Returns what those instruments showed that go back in time, from the beginning up to the present cycle."""
         now = self._states()
-        marks = self._marks.every(FILMED)
+        marks = [mark for mark in self._marks if mark.tick % FILMED == 0]
         step = -(-len(marks) // MOST_FILMED) or 1
         found: List[View] = []
         try:
-            for _, at, states in marks[::step]:
-                self._load(states)
-                _add_views(found, at, self.instruments)
+            for mark in marks[::step]:
+                self._load(mark.states)
+                _add_views(found, mark.cycle, self.instruments)
         finally:
             self._load(now)
         _add_views(found, cycle, self.instruments)
@@ -151,11 +157,8 @@ class Ticker:
                 each.load(state)
 
 
-def _is_after(control: Control, mark: Mark) -> bool:
-    """Whether a button went down or came up after the states of a mark were taken: at the mark's own cycle it did so before
-    them, unless the tick had happened."""
-    number, cycle, _ = mark
-    return control.cycle > cycle or control.cycle == cycle and control.ticks > number
+def _is_kept(tick: int, now: int) -> bool:
+    return any(tick % step == 0 and now - tick <= step * most for step, most in KEPT)
 
 
 def _cycle_of_tick(number: int) -> int:
@@ -183,41 +186,3 @@ def _view_of(instrument: Any) -> Any:
         return view
     except Exception as error:
         return {"title": type(instrument).__name__, "rows": [["failed", repr(error)]]}
-
-
-class Marks:
-    """The states of instruments at past ticks: each of the last ten seconds, one a tenth of a second of the last two hundred, and
-    one a second before."""
-
-    KEPT = ((1, 1000), (10, 2000), (100, None))
-    """The ticks from one to the next, and how many are kept."""
-
-    def __init__(self) -> None:
-        self._levels: List[Deque[Mark]] = [deque(maxlen=most) for _, most in self.KEPT]
-
-    def add(self, tick: int, cycle: int, states: List[Any]) -> None:
-        """Keeps the states before a tick."""
-        for (step, _), level in zip(self.KEPT, self._levels):
-            if tick % step == 0:
-                level.append((tick, cycle, states))
-
-    def before(self, cycle: int) -> Mark:
-        """Returns the last mark at a cycle or earlier."""
-        found = [next((mark for mark in reversed(level) if mark[1] <= cycle), (0, 0, [])) for level in self._levels]
-        return max(found, key=lambda mark: (mark[0], bool(mark[2])))
-
-    def every(self, ticks: int) -> List[Mark]:
-        """Returns the marks whose ticks are divisible by a number, in their order."""
-        found = {mark[0]: mark for level in self._levels for mark in level if mark[0] % ticks == 0}
-        return [found[number] for number in sorted(found)]
-
-    def taken_from(self, tick: int) -> List[Mark]:
-        """Takes the marks from a tick on away, and returns them in their order."""
-        taken = [mark for mark in self.every(1) if mark[0] >= tick]
-        self._levels = [deque((mark for mark in level if mark[0] < tick), maxlen=level.maxlen) for level in self._levels]
-        return taken
-
-    def put_back(self, marks: List[Mark]) -> None:
-        """Puts marks back that were taken."""
-        for mark in marks:
-            self.add(*mark)

@@ -1,16 +1,18 @@
-"""A thread that does jobs for other threads, one after another."""
+"""The machine's turns: one thread at a time uses the machine, and a thread of its own lets time run between them, by a clock."""
 
-import queue
 import threading
-from concurrent.futures import Future
-from concurrent.futures import TimeoutError as Late
+import time
 from contextlib import suppress
 from typing import Any, Callable, Tuple
 
 from agc import Ended
 
-PATIENCE = 20  # seconds that a job waits for its turn
+PATIENCE = 20  # seconds that a task waits for its turn
 LEAVING = 0.5  # seconds that the thread may take to end
+CYCLES_A_SECOND = 1024000 / 12
+SPEEDS = (1, 10, 100, 1000)
+LONGEST_PIECE = 0.02  # seconds that a piece may take, so that keys get in
+LOST = 1.0  # seconds behind the clock from which time is dropped
 
 
 class Unable(Exception):
@@ -18,76 +20,84 @@ class Unable(Exception):
 
 
 class Worker:
-    """The machine's thread: it does the jobs that there are, and between them its own work."""
+    """Has tasks of any thread done one after another, and its own work between them."""
 
     def __init__(self, work: Callable[[], None], note_end: Callable[[Ended], None]) -> None:
-        """`work` is done after each wait for jobs; `note_end` is called if a job finds that the console has ended."""
+        """`work` is done after each task, and after each wait; `note_end` is called if either finds that the console has ended."""
         self._work = work
         self._note_end = note_end
-        self._jobs: "queue.Queue[Tuple[Future[Any], Callable[[], Any]]]" = queue.Queue()
+        self._turn = threading.RLock()
+        self._bell = threading.Event()
         self._closing = False
-        self.wait = 0.25
-        """The seconds that the thread waits for a job before it works on."""
+        self.wait = 0.25  # seconds that the thread waits for a task before it works on
         self.thread = threading.Thread(target=self._run, name="machine", daemon=True)
 
-    def start(self) -> None:
-        """Begins."""
-        self.thread.start()
-
     def call(self, task: Callable[[], Any]) -> Any:
-        """Runs a task on the thread, and returns what it returns. A task whose turn does not come is not done at all: then
-        `Unable` is raised. One that has begun is waited for."""
-        if threading.current_thread() is self.thread:
-            return task()
-        if self._closing:
-            raise Ended("the session has ended", None)
-        future: "Future[Any]" = Future()
-        self._jobs.put((future, task))
+        """Does a task in its turn, and returns what it returns. A task may call others, which are done at once. If the turn does not
+        come, `Unable` is raised, and the task is not done at all; once it has begun there is no limit."""
+        if not self._turn.acquire(timeout=PATIENCE):
+            raise Unable("the machine is busy: this was not done")
         try:
-            return future.result(timeout=PATIENCE)
-        except Late:
-            if future.cancel():
-                raise Unable("the machine is busy: this was not done") from None
-            return future.result()
+            if self._closing:
+                raise Ended("the session has ended", None)
+            return task()
+        except Ended as ended:
+            if not self._closing:
+                self._note_end(ended)
+            raise
+        finally:
+            self._turn.release()
+            if threading.current_thread() is not self.thread:
+                self._bell.set()
 
     def close(self, kill: Callable[[], None]) -> None:
         """Ends the thread. If it does not end at once, `kill` ends what it waits for."""
         self._closing = True
-        self._jobs.put((Future(), lambda: None))
+        self._bell.set()
         if threading.current_thread() is self.thread:
             return
         self.thread.join(LEAVING)
         if self.thread.is_alive():
             kill()
             self.thread.join(LEAVING)
-        self._do_jobs(0)
 
     def _run(self) -> None:
-        """Does what is requested, and its own work, until it is closed."""
         while not self._closing:
-            self._do_jobs(self.wait)
-            if not self._closing:
-                self._work()
-        self._do_jobs(0)
+            self._bell.wait(self.wait)
+            self._bell.clear()
+            with suppress(Ended, Unable):
+                self.call(self._work)
 
-    def _do_jobs(self, patience: float) -> None:
-        """Does the jobs that are there; waits for the first one."""
-        with suppress(queue.Empty):
-            self._do(*self._jobs.get(timeout=patience))
-            while True:
-                self._do(*self._jobs.get_nowait())
 
-    def _do(self, future: "Future[Any]", task: Callable[[], Any]) -> None:
-        """Does a job; once the thread is being closed, it is too late for it."""
-        if not future.set_running_or_notify_cancel():
-            return
-        if self._closing:
-            future.set_exception(Ended("the session has ended", None))
-            return
-        try:
-            future.set_result(task())
-        except Ended as ended:
-            self._note_end(ended)
-            future.set_exception(ended)
-        except BaseException as error:  # goes to the thread that asked
-            future.set_exception(error)
+class Clock:
+    """The machine's time beside ours. It goes at one of the speeds, and drops time that the machine cannot keep up with."""
+
+    def __init__(self) -> None:
+        self.speed = 1
+        self.pace = 0.0  # how many times the hardware's pace the machine went lately
+        self._rate = 200_000.0  # cycles a second that the machine can go
+        self.start(0)
+
+    def start(self, cycle: int) -> None:
+        """Begins anew at this cycle."""
+        self._anchor: Tuple[float, int] = (time.monotonic(), cycle)
+        self._measured = self._anchor
+
+    def due(self, here: int) -> int:
+        """Returns the cycle to which a machine that is here should go now, in a piece that is soon over."""
+        now, (since, start) = time.monotonic(), self._anchor
+        due = start + int((now - since) * CYCLES_A_SECOND * self.speed)
+        if due - here > LOST * CYCLES_A_SECOND * self.speed:
+            self._anchor = (now, here)
+            due = here
+        return min(due, here + max(1000, int(self._rate * LONGEST_PIECE)))
+
+    def measure(self, seconds: float, cycles: int, here: int) -> None:
+        """Notes how many cycles a piece had, and how fast the machine went in the last half second."""
+        if cycles > 500:
+            rate = cycles / max(seconds, 1e-6)
+            self._rate = max(20_000.0, 0.8 * self._rate + 0.2 * rate)
+        now, (since, start) = time.monotonic(), self._measured
+        if now - since >= 0.5:
+            self.pace = (here - start) / CYCLES_A_SECOND / (now - since)
+            self._measured = (now, here)

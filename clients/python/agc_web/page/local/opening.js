@@ -174,7 +174,8 @@ function buildOpening() {
 function otherGuides() {
   const open = (...chosen) => (now.cycle || engine.events.length ? showOpening() : openWithGuide(...chosen));
   const others = OFFERED.filter(([name]) => name !== session.files?.example);
-  return [...others.map(([name, title]) => button(title || EXAMPLES[name].title, () => open(name, title))), button('More …', showOpening)];
+  const offer = (label, action) => ({ label, build: () => button(label, action) });
+  return [...others.map(([name, title]) => offer(title || EXAMPLES[name].title, () => open(name, title))), offer('More …', showOpening)];
 }
 
 async function openWithGuide(name, title) {

@@ -67,7 +67,11 @@ class Engine {
     }
     const { kept, ...parts } = news;
     if (kept) this.#keep(kept);
-    this.#news(parts);
+    try {
+      this.#news(parts);
+    } finally {
+      this.#worker.postMessage({ taken: true });
+    }
   }
 
   #keep({ changes, ...kept }) {
@@ -103,9 +107,8 @@ const session = {
   },
 
   do: (command, more) => callEngine('do', { do: command, ...more }),
-  look: (wanted) => callEngine('look', wanted),
-  find: (wanted) => callEngine('find', wanted),
-  cause: (wanted) => callEngine('cause', wanted),
+  say: (wanted) => callEngine('say', wanted),
+  search: (wanted) => callEngine('search', wanted),
   script: async () => (await callEngine('script')).script,
   weave: (text, file) => weaveText(text, file),
   source: async () => ({ listing: await listingOf(session.files), rope: session.files.rope, form: session.files.form }),
@@ -163,7 +166,7 @@ function resetPage() {
   find('tabs').replaceChildren();
   find('watched').replaceChildren();
   Object.assign(guiding, { text: undefined, guide: null, at: 0 });
-  Object.assign(why, { pending: null, darkAt: null, isExplained: false });
+  Object.assign(why, { pending: null, isExplained: false });
   Object.assign(quantities, { about: null, rows: [] });
   sayCause(null);
   Object.assign(plot, noCurves(), { epoch: plot.epoch + 1 });

@@ -19,20 +19,21 @@ const hasLength = (list, least, most) => Array.isArray(list) && list.length >= l
 const areAll = (list, least, most, isOne) => hasLength(list, least, most) && list.every(isOne);
 const isFrame = (frame) => areAll(frame, 4, 4, isNumber) && frame[2] - frame[0] >= THINNEST && frame[3] - frame[1] >= THINNEST;
 
-// Each returns the element of a shape, or nothing for one that it does not understand. `map` has the points of the page.
+// Each returns what a shape's element has, or nothing for a shape that it does not understand: elements of the same name have the same
+// attributes. `map` has the points of the page.
 const SHAPES = {
-  line: ({ points }, map) => areAll(points, 2, 2, isPoint) && drawn('polyline', { points: map.all(points) }),
-  path: ({ points }, map) => areAll(points, 2, MOST_POINTS, isPoint) && drawn('polyline', { points: map.all(points) }),
-  polygon: ({ points }, map) => areAll(points, 3, MOST_POINTS, isPoint) && drawn('polygon', { points: map.all(points) }),
+  line: ({ points }, map) => areAll(points, 2, 2, isPoint) && { name: 'polyline', attributes: { points: map.all(points) } },
+  path: ({ points }, map) => areAll(points, 2, MOST_POINTS, isPoint) && { name: 'polyline', attributes: { points: map.all(points) } },
+  polygon: ({ points }, map) => areAll(points, 3, MOST_POINTS, isPoint) && { name: 'polygon', attributes: { points: map.all(points) } },
   circle: ({ at, radius }, map) => {
     if (!isPoint(at) || !isNumber(radius) || radius < 0) return null;
     const [cx, cy] = map.one(at);
-    return drawn('circle', { cx, cy, r: map.length(radius) });
+    return { name: 'circle', attributes: { cx, cy, r: map.length(radius) } };
   },
   text: ({ at, text, align }, map) => {
     if (!isPoint(at) || !isText(text)) return null;
     const [x, y] = map.one(at);
-    return drawn('text', { x, y, 'text-anchor': ALIGNMENTS.has(align) ? align : 'start' }, text);
+    return { name: 'text', attributes: { x, y, 'text-anchor': ALIGNMENTS.has(align) ? align : 'start' }, text };
   },
 };
 
@@ -46,11 +47,25 @@ function mapTo(frame, width, height) {
   return { one, all: (points) => points.map((point) => one(point).join(',')).join(' '), length: (metres) => bounded(metres * scale) };
 }
 
-function elementOf(shape, map) {
+function outlineOf(shape, map) {
   if (shape === null || typeof shape !== 'object' || !Object.hasOwn(SHAPES, shape.shape)) return null;
-  const element = SHAPES[shape.shape](shape, map);
-  if (element && STYLES.has(shape.style)) element.classList.add(shape.style);
-  return element || null;
+  const outline = SHAPES[shape.shape](shape, map) || null;
+  if (outline) outline.attributes.class = STYLES.has(shape.style) ? shape.style : '';
+  return outline;
+}
+
+// Shows outlines by the elements that are there, and changes what differs alone: new elements for each frame are some 50 MB of garbage
+// in twenty seconds.
+function showOutlines(svg, outlines) {
+  outlines.forEach(({ name, attributes, text }, i) => {
+    const old = svg.children[i];
+    const element = old?.localName === name ? old : drawn(name, {});
+    for (const [attribute, value] of Object.entries(attributes)) setAttribute(element, attribute, value);
+    if (text !== undefined) setText(element, text);
+    if (!old) svg.append(element);
+    else if (old !== element) old.replaceWith(element);
+  });
+  while (svg.children.length > outlines.length) svg.lastChild.remove();
 }
 
 // Makes the place of a drawing, which draws its shapes anew whenever its size changes, so also when its tab is chosen.
@@ -79,5 +94,5 @@ function draw(svg) {
     return;
   }
   const map = mapTo(frame, width, height);
-  svg.replaceChildren(...shapes.slice(0, MOST_SHAPES).map((shape) => elementOf(shape, map)).filter(Boolean));
+  showOutlines(svg, shapes.slice(0, MOST_SHAPES).map((shape) => outlineOf(shape, map)).filter(Boolean));
 }

@@ -9,9 +9,17 @@ function make(name, attributes = {}, ...inside) {
   return element;
 }
 
-// Sets a text only if it is another one, so that nothing is drawn or read aloud twice.
+// Sets a text only if it is another one, so that nothing is drawn or read aloud twice. The node of a text stays: texts change often.
 function setText(element, text) {
-  if (element.textContent !== text) element.textContent = text;
+  if (element.textContent === text) return;
+  const { firstChild } = element;
+  if (text && firstChild?.nodeType === Node.TEXT_NODE && element.childNodes.length === 1) firstChild.data = text;
+  else element.textContent = text;
+}
+
+// Sets an attribute only if it is another one.
+function setAttribute(element, name, value) {
+  if (element.getAttribute(name) !== String(value)) element.setAttribute(name, value);
 }
 
 // Scrolls to an element that is not seen: at the width of a phone it may stand far below.

@@ -203,10 +203,14 @@ function skipStep() {
   followGuide();
 }
 
+// Returns the label of a button, and what makes it: the strip is looked at with all news, and its buttons are seldom others.
 function stripButton(label, name, task, kind = '') {
-  const button = make('button', { type: 'button', class: kind, 'aria-label': name }, label);
-  button.addEventListener('click', task);
-  return button;
+  const build = () => {
+    const button = make('button', { type: 'button', class: kind, 'aria-label': name }, label);
+    button.addEventListener('click', task);
+    return button;
+  };
+  return { label, build };
 }
 
 const choices = () => guiding.guides.map((guide) => stripButton(guide.title, `Guide: ${guide.title}`, () => beginGuide(guide)));
@@ -238,11 +242,11 @@ function mainButton(step) {
 function showStrip() {
   const [title, what, why, buttons] = stripOf(guiding);
   find('strip').hidden = guiding.hidden || !what;
-  const says = JSON.stringify([title, what, why, buttons.map((each) => each.textContent)]);
+  const says = JSON.stringify([title, what, why, buttons.map(({ label }) => label)]);
   if (guiding.says === says) return;
   guiding.says = says;
   setText(find('strip-title'), title);
   setText(find('strip-what'), what);
   setText(find('strip-why'), why);
-  find('strip-buttons').replaceChildren(...buttons);
+  find('strip-buttons').replaceChildren(...buttons.map(({ build }) => build()));
 }

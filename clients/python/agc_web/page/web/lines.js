@@ -27,7 +27,7 @@ function keepListing(about) {
 }
 
 // Of a name that is there twice the first place counts.
-const placesByName = ({ names, places = [] }) => new Map(names.map((name, i) => [name, places[i]]).reverse());
+const placesByName = ({ names, places }) => new Map(names.map((name, i) => [name, places[i]]).reverse());
 
 // Loads the listing once it is wanted, and compares its words with the rope's. Returns whether it is there.
 function loadListing() {
@@ -244,7 +244,7 @@ function pointAt(event) {
 async function showAlarmLine() {
   if (now.playing) await ask('pause');
   const code = await alarmCode(CODE_OF_LAMP);
-  const alarm = await (why.darkAt === null ? seek : seekFirst)(known(ALARMS));
+  const alarm = await seekFirst(known(ALARMS));
   if (!alarm || !await goExactly(alarm.cycle)) return;
   const call = code in CODES ? await seek(known(Object.keys(CALLS)), alarm.cycle) : null;
   const reason = CODES[code] ? `: ${CODES[code]}` : '';
@@ -261,19 +261,29 @@ async function goExactly(cycle) {
   return await ask('go', { cycle }) && (now.cycle >= cycle || ask('go', { cycle }));
 }
 
-// Goes back by a boundary, over a call, or to the call of the routine.
+// Goes back by a boundary, over a call, or to the call of the routine: two quick clicks are two steps. What waits behind a step that
+// is not done is dropped.
+let stepsBack = [];
 async function stepBack(way) {
-  if (now.playing && !await ask('pause')) return;
-  const found = await request(() => session.find({ step: way }));
-  if (!found) return;
+  stepsBack.push(way);
+  if (stepsBack.length > 1) return;
+  while (stepsBack.length && await goStepBack(stepsBack[0])) stepsBack.shift();
+  stepsBack = [];
+}
+
+// Returns whether it was done.
+async function goStepBack(way) {
+  if (now.playing && !await ask('pause')) return false;
+  const found = await request(() => session.findStep(way));
+  if (!found) return false;
   showFault(found.error || '');
-  if (found.status === 200) await goExactly(found.cycle);
+  return found.status === 200 && goExactly(found.cycle);
 }
 
 function buildListing() {
   for (const button of find('listing-steps').children) {
     const { by, from } = button.dataset;
-    button.addEventListener('click', () => (by ? ask(by) : stepBack(from)));
+    button.addEventListener('click', () => (from ? stepBack(from) : ask(by, by === 'step' ? {} : jobNow())));
   }
   find('listing').addEventListener('scroll', buildLines);
   find('listing').addEventListener('keydown', moveLine);

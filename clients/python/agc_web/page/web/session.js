@@ -21,21 +21,13 @@ const session = {
   // Has a command done. Returns the status, and `error` or `sure` if it was not done.
   do: (command, more) => post('do', { do: command, window: WINDOW, ...more }),
 
-  // Returns the status, and the words of an erasable bank, of cells or channels: of a cell its word, of "PLACE COUNT" the words of so
-  // many cells, or a sentence that says why they cannot be read.
-  look: (wanted) => post('look', wanted),
+  // Has `lines`, the console's `cell` and `channel`, said to the machine's console. Returns the status, the `cycle` at which the machine
+  // stands, and `answers`: the `cycle` after each line with the `lines` of its answer, or with the name of its `fault` and the `error`;
+  // or, for all, an `error`.
+  say: (wanted) => post('say', wanted),
 
-  // Searches backwards for the last boundary that hits one of `places`, in the words of the console's `back until`, before the
-  // cycle `before`, or before now; the machine stays where it is. Returns the status, the `cycle` at which it came and `order`,
-  // the cycle at which the order before it began; or an `error`.
-  find: (wanted) => post('find', wanted),
-
-  // The same for {step: 'step'}, or 'over' or 'finish', the console's ways back by boundaries and calls: returns the `cycle`.
-
-  // Searches for what changed one of `places` last: "cell PLACE", "panel FIELD", "lamp NAME" or "write CCC" for a channel; the machine
-  // stays where it is. Returns the status, the `cycle` at which it stands, and `line`, the boundary as a trace has it, null if
-  // nothing has; or an `error`.
-  cause: (wanted) => post('cause', wanted),
+  // The same for a second console, which may also go back and on, with `before` a cycle of the past, and else where the machine stands.
+  search: (wanted) => post('search', wanted),
 
   // Returns what the page compares before it shows the source: the text of a listing, and the bytes and the form of the rope.
   async source() {

@@ -12,7 +12,17 @@ let byPointer = false; // whether a pointer was used last
 
 // what the session has said
 
-function showAbout(about) {
+const MOST_NAMES = 5000; // that the page offers
+
+// Returns the names in a file of names, and their places; channels, whose numbers begin with C, are left out.
+function namedPlaces(text) {
+  const words = (text ?? '').split(LINE).map((line) => line.trim().split(/\s+/));
+  const found = words.filter(([place, name]) => name && !/^[#C]/.test(place)).slice(0, MOST_NAMES);
+  return { names: found.map(([, name]) => name), places: found.map(([place]) => place) };
+}
+
+function showAbout(given) {
+  const about = { ...given, ...namedPlaces(given.names) };
   const name = about.rope.split('/').slice(-2).join('/');
   setText(find('rope'), name);
   document.title = `DSKY: ${name}`;
@@ -42,7 +52,7 @@ function showTabs(about) {
 function showTime(time) {
   now = time;
   document.body.classList.toggle('playing', time.playing);
-  find('live-panel').setAttribute('aria-live', time.playing ? 'off' : 'polite');
+  setAttribute(find('live-panel'), 'aria-live', time.playing ? 'off' : 'polite');
   setText(find('play'), time.playing ? '❚❚ Pause' : '▶ Play');
   find('speed').value = String(time.speed);
   find('undo').hidden = time.undo === null;
@@ -53,7 +63,7 @@ function showTime(time) {
     find('slider').max = Math.max(time.furthest, time.cycle);
     find('slider').value = time.cycle;
   }
-  find('slider').setAttribute('aria-valuetext', `${(time.cycle / CYCLES_A_SECOND).toFixed(1)} seconds`);
+  setAttribute(find('slider'), 'aria-valuetext', `${(time.cycle / CYCLES_A_SECOND).toFixed(1)} seconds`);
   showState();
   showPro(time.pro);
   showTrouble();

@@ -7,20 +7,18 @@ const LARGE_JOB = 'a core set and a VAC area for one more job';
 const TASK = 'a place in the Waitlist for one more task';
 const CALLS = { NOVAC: JOB, FINDVAC: LARGE_JOB, SPVAC: LARGE_JOB, WAITLIST: TASK, TWIDDLE: TASK, FIXDELAY: TASK, VARDELAY: TASK }; // what they want
 const CODE = 'FAILREG+2'; // the last alarm's code
-const CODE_OF_LAMP = 'FAILREG'; // that of the first one, for which PROG is lit
+const CODE_OF_LAMP = 'FAILREG'; // that of the first one, for which PROG is lit: RSET clears it, and later alarms leave it alone
 const CODES = { 0o1201: 'no VAC area was free', 0o1202: 'no core set was free', 0o1203: 'no place was free in the Waitlist' };
 const COUNTERS = { 0o32: 'CDUX', 0o33: 'CDUY', 0o34: 'CDUZ', 0o35: 'CDUT: rendezvous radar', 0o36: 'CDUS: rendezvous radar', 0o37: 'PIPAX', 0o40: 'PIPAY', 0o41: 'PIPAZ' };
 const SUPERBANK = 0o100; // of the word that core sets keep: banks 30 to 37 are 40 to 47
 
-const MOST_ALARMS = 8; // that are looked through for the first one
-
-// `darkAt`: the last cycle at which PROG was seen dark while time ran; `cycle`: that of the order that the tab explains.
-const why = { names: new Set(), banks: {}, pending: null, darkAt: null, isExplained: false, cycle: null };
+// `cycle`: that of the order that the tab explains.
+const why = { names: new Set(), banks: {}, pending: null, isExplained: false, cycle: null };
 
 // names
 
 // Keeps the names of places, and of fixed memory their addresses bank by bank.
-function keepNames({ names, places = [] }) {
+function keepNames({ names, places }) {
   why.names = new Set(names);
   why.banks = {};
   places.forEach((place, i) => {
@@ -57,16 +55,11 @@ async function seek(places, before) {
   return answer?.status === 200 ? answer : null;
 }
 
-// Searches for the alarm that lit PROG: the first one since the lamp was dark.
+// Searches for the alarm for which PROG is lit: the one that gave FAILREG its code, however many have come since; without that cell
+// the last one.
 async function seekFirst(places) {
-  let first = await seek(places);
-  for (let i = 1; first && i < MOST_ALARMS; i += 1) {
-    const { cycle } = first;
-    const answer = await request(() => session.find({ places, before: cycle }));
-    if (answer?.status !== 200 || answer.cycle < why.darkAt) break;
-    first = answer;
-  }
-  return first;
+  const change = await request(() => session.find({ places: [`cell ${CODE_OF_LAMP}`] }));
+  return seek(places, change?.cycle);
 }
 
 // Goes back to the last time that a breakpoint would have been hit. Instruments go back to the tick before; from there it goes on.
@@ -76,7 +69,7 @@ async function backTo(text) {
 }
 
 // Explains the alarm for which PROG is lit; others may have come until the user has clicked.
-const explainLamp = () => (why.darkAt === null ? explainLast() : explainAlarm(CODE_OF_LAMP, seekFirst));
+const explainLamp = () => explainAlarm(CODE_OF_LAMP, seekFirst);
 const explainLast = () => explainAlarm(CODE, seek);
 
 // Goes back to the order that caused the alarm that is found: the call of the Executive or the Waitlist that found no room,
@@ -106,7 +99,6 @@ async function alarmCode(cell) {
 // Offers the reason if PROG is lit, and shows it once the machine is where it is to be.
 function followWhy() {
   const isAlarm = isLit('PROG') && !LAMPS.filter(Boolean).every(isLit); // a lamp test lights all
-  if (!isAlarm && now.playing) why.darkAt = now.cycle;
   find('alarm').hidden = !isAlarm || !known(ALARMS).length;
   if (now.playing || now.cycle !== why.cycle) why.isExplained = false;
   setText(find('why-stands'), now.cycle === why.cycle ? ' Time stands before this order.' : '');

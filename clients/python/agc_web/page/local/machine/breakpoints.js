@@ -15,6 +15,10 @@ export class Breakpoints {
     return [...this.#numbers.keys()];
   }
 
+  get isEmpty() {
+    return this.#numbers.size === 0;
+  }
+
   get isFull() {
     return this.#numbers.size >= MOST_BREAKPOINTS;
   }

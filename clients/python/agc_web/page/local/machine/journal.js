@@ -53,7 +53,12 @@ export class Journal {
 
   // Notes where the machine stands after an answer, unless that is only on the way to another cycle.
   note(cycle, stop) {
-    if (!this.isReplaying) this.#point = { cycle, stop, known: this.events.length, events: this.events };
+    if (this.isReplaying) return;
+    const point = this.#point; // changed in place: there is a note for each answer
+    point.cycle = cycle;
+    point.stop = stop;
+    point.known = this.events.length;
+    point.events = this.events;
   }
 
   // Takes what happens within a task for a replay.

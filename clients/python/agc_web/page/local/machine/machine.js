@@ -5,18 +5,22 @@
 import { Breakpoints, MOST_BREAKPOINTS } from './breakpoints.js';
 import { Clock, SPEEDS, seconds } from './clock.js';
 import { EVENTS } from './console.js';
-import { Ended, Refused, Sure, Unable } from './faults.js';
+import { Ended, Fault, Refused, Sure, Unable } from './faults.js';
 import { Journal } from './journal.js';
 import { KEYS, Keyboard, MOST_WAITING } from './keyboard.js';
 import { HISTORY, Rewinder, WARM_UP } from './rewinder.js';
-import { endOf } from './searcher.js';
+import { answersTo } from './searcher.js';
 import { Ticker } from './ticks.js';
 
 const WAKE = 8; // milliseconds between two pieces
-const NEWS = 0.02; // seconds between two looks at least
+const NEWS = 0.02; // seconds between two looks at least,
+const NEWS_FAST = 0.04; // and if time goes this many times as fast as the hardware:
+const FAST = 100;
 const AT_ONCE = 500; // events that the console gets in one text
 const LONGEST_STEP = 1000000; // cycles that `over` and `finish` may take
-const PRIORITY = 11; // the word of a core set that tells jobs apart
+
+// Whether the user gave an event. That PRO came up is none: if its going down stays, going back lets it come up.
+const isPress = (event) => event.byUser && event.command !== 'pro up';
 
 export class Machine {
   playing = false;
@@ -26,7 +30,7 @@ export class Machine {
   furthest = 0;
   #console;
   #watch;
-  #another;
+  #searcher;
   #news;
   #journal;
   #clock = new Clock();
@@ -40,19 +44,22 @@ export class Machine {
   #lastChange = null; // the last panel change that was looked for
   #looked = 0;
   #turn = Promise.resolve();
+  #channel = new MessageChannel();
 
   // Takes over a console at its beginning, with the lines of the script that it began with, and the tables' SPEC or null. `news` is called
-  // with a part's name and its value; `another` starts another console with a script.
-  constructor(console, { base, watch, instruments, news, another }) {
+  // with a part's name and its value; `searcher` has a second console.
+  constructor(console, { base, watch, instruments, news, searcher }) {
     this.#console = console;
     this.#watch = watch;
-    this.#another = another;
+    this.#searcher = searcher;
     this.#news = news;
     this.#journal = new Journal(base);
     this.#breakpoints = new Breakpoints(console);
     this.#ticker = new Ticker(instruments);
     this.#rewinder = new Rewinder(console, this.#journal, (events) => this.#replayEvents(events));
+    this.#channel.port1.onmessage = () => this.#wake();
     console.onAnswer = (command, answer) => this.#answered(command, answer);
+    console.onWrite = (channel, word) => this.#ticker.write(channel, word);
     instruments.forEach((each) => each.attach?.(this));
     if (!this.#ticker.isEmpty) this.call(() => console.say('quiet off')); // whose answers say what was written
   }
@@ -144,7 +151,13 @@ export class Machine {
     this.call(async () => {
       await this.#guarded(() => this.#goOn());
       await this.#guarded(() => this.#lookIfDue());
-    }).then(() => { if (this.playing) setTimeout(() => this.#wake(), this.#clock.isBehind ? 0 : WAKE); });
+    }).then(() => { if (this.playing) this.#wakeAgain(); });
+  }
+
+  // If time is behind, the next piece comes after the page's messages that wait; a timer would lose four milliseconds.
+  #wakeAgain() {
+    if (this.#clock.isBehind) this.#channel.port2.postMessage(0);
+    else setTimeout(() => this.#wake(), WAKE);
   }
 
   // Runs a part of the clock's work. What goes wrong stops time and is shown.
@@ -180,14 +193,19 @@ export class Machine {
       this.#journal.add({ cycle: answer.cycle - (word === 'pulse' ? 1 : 0), command, byUser });
     }
     this.#journal.note(answer.cycle, answer.stop);
-    this.#ticker.follow(command, answer.lines);
+    this.#ticker.follow(word);
+  }
+
+  // Whether events are said apart from what comes after them. A pulse costs a cycle: a key that waits is pressed by where the machine
+  // stands then.
+  get #isApart() {
+    return this.#keyboard.waiting.length > 0 || !this.#breakpoints.isEmpty;
   }
 
   // Ticks the instruments if they are due, and says these commands after their events.
   async #tickAndSay(commandsOf) {
     const events = await this.#ticker.tickDue(this.#console);
-    // A pulse costs a cycle: a key that waits is pressed by where the machine stands then.
-    const isApart = this.#keyboard.waiting.length > 0 || this.#breakpoints.texts.length > 0;
+    const isApart = this.#isApart;
     this.#isTicking = true;
     try {
       if (isApart) await this.#console.sayAll(events);
@@ -225,6 +243,10 @@ export class Machine {
   // Goes on to a cycle, with the keys that wait, the ticks of instruments and the breakpoints on the way.
   async #advance(target) {
     while (this.playing && this.#console.stop === null && this.#console.cycle < target) {
+      if (!this.#isApart) {
+        await this.#tickOn(target);
+        continue;
+      }
       await this.#pressDue();
       const next = () => Math.min(target, ...this.#nextCycles());
       if (await this.#tickAndSay(() => [`go to ${next()}`])) continue;
@@ -237,6 +259,23 @@ export class Machine {
       }
     }
     this.furthest = Math.max(this.furthest, this.#console.cycle);
+  }
+
+  // Goes on to a cycle, tick by tick, while no key waits and there are no breakpoints. The console answers at once, so that nothing is
+  // waited for: ten thousand ticks a second are a hundred times the hardware's pace.
+  async #tickOn(target) {
+    const [console, ticker] = [this.#console, this.#ticker];
+    while (console.stop === null && console.cycle < target) {
+      const commands = ticker.tickNow(console.cycle) ?? await ticker.tickDue(console);
+      commands.push(`go to ${Math.min(target, ticker.nextCycle)}`);
+      this.#isTicking = true;
+      try {
+        const answers = console.sayNow(commands);
+        if (answers instanceof Promise) await answers;
+      } finally {
+        this.#isTicking = false;
+      }
+    }
   }
 
   // The cycles at which a key or a tick is due next.
@@ -322,16 +361,18 @@ export class Machine {
     const [{ cycle }, comes, { waiting }] = [this.#console, await this.#console.next(), this.#keyboard];
     this.#keyboard.waiting = [];
     let length = Math.min(LONGEST_STEP, ...this.#ticker.nextCycles().map((tick) => tick - cycle));
-    const endNow = () => endOf(() => this.#another(this.script()), cycle, comes, `${way}${this.job()} within ${length}`);
-    let { came, end } = await endNow();
-    while (!came && length < LONGEST_STEP && this.#console.stop === null) {
+    const endNow = async () => (await this.#searcher.answers(this.script(), cycle, comes, [`${way} within ${length}`]))[0];
+    let end = await endNow();
+    const came = () => end.lines?.includes('came yes');
+    while (!end.error && !came() && length < LONGEST_STEP && this.#console.stop === null) {
       length = Math.min(LONGEST_STEP, 4 * length);
       await this.#goAhead(cycle + length);
-      ({ came, end } = await endNow());
+      end = await endNow();
     }
-    await this.#comeTo(end);
+    await this.#comeTo(end.cycle);
     this.#keyboard.waiting = waiting;
-    if (!came) this.trouble = `${way} did not come to its end in ${LONGEST_STEP.toLocaleString('en')} cycles`;
+    if (end.error) throw new Fault(end.error);
+    if (!came()) this.trouble = `${way.split(' ')[0]} did not come to its end in ${LONGEST_STEP.toLocaleString('en')} cycles`;
     await this.#look();
   }
 
@@ -343,14 +384,6 @@ export class Machine {
     }
     if (this.#console.cycle < cycle) await this.#goAhead(cycle);
     this.furthest = Math.max(this.furthest, this.#console.cycle);
-  }
-
-  // The words after `over` and `finish` that tell the Executive's jobs apart, if its tables are known.
-  job() {
-    if (this.#watch === null) return '';
-    const [bank, offset] = this.#watch.split(',').map((number) => parseInt(number, 8));
-    const cell = 0o400 * bank + offset + PRIORITY;
-    return ` job E${cell >> 8},${(0o1400 + (cell % 0o400)).toString(8)}`;
   }
 
   #wantConsole() {
@@ -440,7 +473,8 @@ export class Machine {
     const end = this.#console.cycle;
     const first = this.#journal.countBefore(cycle);
     const dropped = this.#journal.events.slice(first);
-    const count = dropped.filter((event) => event.byUser).length + this.#keyboard.waiting.length + this.#ticker.pressedSince(cycle);
+    const waiting = this.#keyboard.waiting.filter((name) => name !== 'PRO up');
+    const count = dropped.filter(isPress).length + waiting.length + this.#ticker.pressedSince(cycle);
     if (count && !sure) throw new Sure(count);
     this.#stand();
     this.#keyboard.waiting = [];
@@ -459,7 +493,7 @@ export class Machine {
     const undo = this.#undo.at(-1);
     if (!undo) throw new Unable('there is nothing to undo');
     const since = this.#journal.events.slice(this.#journal.countBefore(undo.start));
-    const count = since.filter((event) => event.byUser && event.command !== 'pro up').length + this.#ticker.pressedSince(undo.start);
+    const count = since.filter(isPress).length + this.#ticker.pressedSince(undo.start);
     if (count && !sure) throw new Sure(count);
     this.#undo.pop();
     this.#stand();
@@ -490,8 +524,22 @@ export class Machine {
 
   // what the page is shown
 
+  // Says lines that change nothing to the console. Returns the cycle, and the `answers` as `answersTo` does.
+  say(lines) {
+    return this.inject(async (console) => ({ cycle: console.cycle, answers: await answersTo(console, lines) }));
+  }
+
+  // Says lines to a second console with the session's script: before a cycle of the past or, if there is none, where the machine
+  // stands, which stays there. Returns the cycle at which it stands, and the `answers`.
+  search(lines, before) {
+    return this.inject(async (console) => {
+      const place = before === undefined ? [console.cycle, await console.next()] : [Math.max(0, Math.min(before, console.cycle)), null];
+      return { cycle: console.cycle, answers: await this.#searcher.answers(this.script(), ...place, lines) };
+    });
+  }
+
   async #lookIfDue() {
-    if (this.playing && seconds() - this.#looked >= NEWS) await this.#look();
+    if (this.playing && seconds() - this.#looked >= (this.#clock.speed < FAST ? NEWS : NEWS_FAST)) await this.#look();
   }
 
   // Looks at the machine, and publishes what it shows.

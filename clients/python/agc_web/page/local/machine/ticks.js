@@ -1,7 +1,8 @@
 // The instruments of a session: their ticks, and their states at past ticks, to which they can go back.
 //
 // An instrument is an object as agc_web/ticks.py says, in JavaScript: tick(machine, cycle) each 10 ms of machine time, view(),
-// save() and load(state), control(name, down). `reads` lists the channels that it reads. In a tick machine.channel(number) is
+// save(old) and load(state), control(name, down). `old` is a state that is no longer needed, if there is one: an instrument may fill it
+// and return it, so that a hundred states a second leave no garbage. `reads` lists the channels that it reads. In a tick machine.channel(number) is
 // the word of one of these; machine.key(name), pro(down), pulse(counter, kind), input(channel, word), raise(number) and
 // poke(bank, offset, word) give events. control returns whether there is such a
 // button, and 'once' if a session that is run again does not need it. Controls and machine alone decide what an instrument does, so that running them again
@@ -17,6 +18,10 @@ const FILM_PARTS = ['title', 'outcome', 'drawing', 'dial', 'rows']; // of a view
 const cycleOfTick = (number) => Math.ceil((number * 2560) / 3);
 
 const octal = (number, digits = 1) => number.toString(8).padStart(digits, '0');
+
+// Returns the command of a pulse: one text for all alike, because the journal keeps the events.
+const pulses = {};
+const pulseText = (counter, kind) => (pulses[kind] ??= [])[counter] ??= `pulse ${octal(counter)} ${kind}`;
 
 // What an instrument sees of the machine in its tick. The events wait in `commands`.
 class View {
@@ -40,7 +45,7 @@ class View {
   }
 
   pulse(counter, kind) {
-    this.commands.push(`pulse ${octal(counter)} ${kind}`);
+    this.commands.push(pulseText(counter, kind));
   }
 
   input(channel, word) {
@@ -74,31 +79,42 @@ export class Ticker {
     return this.#instruments.length === 0;
   }
 
-  // The cycle of the next tick, if there are instruments.
+  // The cycle of the next tick; infinite if there are no instruments.
+  get nextCycle() {
+    return this.isEmpty ? Infinity : cycleOfTick(this.#ticks);
+  }
+
+  // The same as a list, which is empty if there are no instruments.
   nextCycles() {
-    return this.isEmpty ? [] : [cycleOfTick(this.#ticks)];
+    return this.isEmpty ? [] : [this.nextCycle];
   }
 
   // Ticks the instruments, if their time has come, and returns the commands of their events.
   async tickDue(console) {
-    if (this.isEmpty || console.cycle < cycleOfTick(this.#ticks)) return [];
+    if (console.cycle < this.nextCycle) return [];
     await this.#read(console);
-    this.#marks.add({ tick: this.#ticks, cycle: console.cycle, states: this.#states() });
+    return this.tickNow(console.cycle);
+  }
+
+  // The same without a promise; null if the channels have to be read first.
+  tickNow(cycle) {
+    if (cycle < this.nextCycle) return [];
+    if (!this.#areKnown) return null;
+    this.#marks.add(this.#ticks, cycle, (old) => this.#states(old));
     this.#ticks += 1;
     const view = new View(this.#words);
-    for (const instrument of this.#instruments) instrument.tick(view, console.cycle);
+    for (const instrument of this.#instruments) instrument.tick(view, cycle);
     return view.commands;
   }
 
-  // Follows the channels: a run reports its writes; after anything else that may change them they are read anew.
-  follow(command, lines) {
-    if (/^(step|back|input) /.test(command)) this.#areKnown = false;
-    if (!/^(go|continue) /.test(command)) return;
-    for (const line of lines) {
-      if (!line.startsWith('write ')) continue;
-      const [, , channel, word] = line.split(' ');
-      this.#words.set(parseInt(channel, 8), parseInt(word, 8));
-    }
+  // Follows the channels by their writes, which a run reports.
+  write(channel, word) {
+    this.#words.set(channel, word);
+  }
+
+  // After a command that may change channels without saying so they are read anew.
+  follow(word) {
+    if (word === 'step' || word === 'back' || word === 'input') this.#areKnown = false;
   }
 
   // Calls an instrument for a button of its panel that goes down or comes up.
@@ -143,7 +159,7 @@ export class Ticker {
   restore(past, cycle) {
     this.#load(past.states);
     this.#marks.takeFrom(Math.ceil((cycle * 3) / 2560));
-    past.marks.forEach((mark) => this.#marks.add(mark));
+    this.#marks.addAgain(past.marks);
     this.controls = [...this.controls.filter((each) => each.cycle < cycle), ...past.controls];
     this.#ticks = past.ticks;
   }
@@ -188,8 +204,8 @@ export class Ticker {
     this.#areKnown = true;
   }
 
-  #states() {
-    return this.#instruments.map((each) => each.save?.());
+  #states(old = []) {
+    return this.#instruments.map((each, i) => each.save?.(old[i]));
   }
 
   #load(states) {
@@ -213,14 +229,33 @@ function viewOf(instrument) {
 // second before.
 class Marks {
   #levels = KEPT.map(() => []);
+  #free = []; // marks that no level has any longer
 
-  // Keeps the states before a tick.
-  add(mark) {
-    KEPT.forEach(([step, most], i) => {
-      if (mark.tick % step) return;
-      this.#levels[i].push(mark);
-      if (this.#levels[i].length > 2 * most) this.#levels[i] = this.#levels[i].slice(-most);
-    });
+  // Keeps the states before a tick, which `save` returns; it may fill the states that it gets.
+  add(tick, cycle, save) {
+    const mark = this.#free.pop() ?? { tick: 0, cycle: 0, states: undefined };
+    mark.states = save(mark.states);
+    mark.tick = tick;
+    mark.cycle = cycle;
+    this.#keep(mark);
+  }
+
+  // Keeps marks that were taken away, in their order.
+  addAgain(marks) {
+    marks.forEach((mark) => this.#keep(mark));
+  }
+
+  #keep(mark) {
+    for (let i = 0; i < KEPT.length && mark.tick % KEPT[i][0] === 0; i += 1) {
+      const level = this.#levels[i];
+      level.push(mark);
+      if (level.length > 2 * KEPT[i][1]) this.#drop(i, level.length - KEPT[i][1]);
+    }
+  }
+
+  // Drops the oldest marks of a level. Those that the next level does not keep are free: the levels before have newer ones alone.
+  #drop(level, count) {
+    for (const mark of this.#levels[level].splice(0, count)) if (mark.tick % KEPT[level + 1][0]) this.#free.push(mark);
   }
 
   // Returns the last mark at a cycle or earlier.

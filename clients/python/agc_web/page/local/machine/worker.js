@@ -1,32 +1,38 @@
 // The worker of the page: one machine, its news, and answers to the page's calls.
 //
-// The page posts {id, call, body} and gets {id, answer}; news come as {news: {part: value}}, only the parts that have changed.
+// The page posts {id, call, body} and gets {id, answer}; news come as {news: {part: value}}, only the parts that have changed. The page
+// posts {taken: true} once it has shown news; until then what is new is gathered, so that a slow page never falls behind.
 // The first call is `open`, or `film`, which needs no machine.
-import { cause } from './causes.js';
-import { doCommand, look } from './commands.js';
+import { doCommand } from './commands.js';
 import { Console } from './console.js';
-import { Ended, Fault, Unable } from './faults.js';
+import { Ended, Fault } from './faults.js';
 import { filmOf } from './film.js';
 import { makeInstruments } from './instruments.js';
 import { Machine } from './machine.js';
-import { find, stepBack } from './searcher.js';
+import { Searcher } from './searcher.js';
 
 let machine = null;
-let another = null; // starts another console of the same rope, with a script
 let fresh = {}; // parts that have changed and were not posted yet
+let isTaken = true; // whether the page has shown the news posted last
+let isPosting = false; // whether news are posted once the present task waits
 const shown = new Map(); // each part as it was posted last
 
 function publish(part, value) {
   const text = JSON.stringify(value);
   if (shown.get(part) === text) return;
   shown.set(part, text);
-  if (!Object.keys(fresh).length) queueMicrotask(post);
   fresh[part] = value;
+  if (isPosting || !isTaken) return;
+  isPosting = true;
+  queueMicrotask(post);
 }
 
 function post() {
+  isPosting = false;
+  if (!Object.keys(fresh).length) return;
   const news = fresh;
   fresh = {};
+  isTaken = false;
   if (machine) news.kept = machine.kept();
   postMessage({ news });
 }
@@ -58,35 +64,20 @@ async function start(module, files) {
 // is whether the page has one. Returns what is to be said.
 async function open({ module, title, guide, quantities, nouns, listing, instrument, options, kept, ...files }) {
   const { console, names, watch, notes } = await start(module, files);
-  another = (script) => Console.start(module, { ...files, names, script });
+  const searcher = new Searcher((script) => Console.start(module, { ...files, names, script }));
   const base = (await console.say('script')).lines;
-  machine = new Machine(console, { base, watch, instruments: makeInstruments(instrument, options), news: publish, another });
+  machine = new Machine(console, { base, watch, instruments: makeInstruments(instrument, options), news: publish, searcher });
   if (kept) await machine.resume(kept);
-  const found = placesIn(names);
-  publish('about', { rope: title, names: found.map(([, name]) => name), places: found.map(([place]) => place), watch, guide, quantities, nouns, listing });
+  publish('about', { rope: title, names, watch, guide, quantities, nouns, listing });
   await machine.look();
   return { notes };
-}
-
-// The places in a file of names, and their names; channels, whose numbers begin with C, are left out.
-function placesIn(text) {
-  const words = (text ?? '').split('\n').map((line) => line.trim().split(/\s+/));
-  return words.filter(([place, name]) => name && !/^[#C]/.test(place)).slice(0, 5000);
-}
-
-async function findStep(console, way) {
-  if (!['step', 'over', 'finish'].includes(way)) throw new Fault('a step is step, over or finish');
-  const cycle = await stepBack(console, () => another(machine.script()), way === 'step' ? way : way + machine.job());
-  if (cycle === null) throw new Unable(way === 'step' ? 'nothing comes before this' : 'there is no call to go back to');
-  return { cycle };
 }
 
 const CALLS = {
   open,
   do: async (body) => { await doCommand(machine, body); },
-  look: (body) => look(machine, body),
-  find: (body) => machine.inject((console) => (body.step ? findStep(console, body.step) : find(console.cycle, () => another(machine.script()), body))),
-  cause: (body) => machine.inject((console) => cause(console, () => another(machine.script()), machine.script(), body)),
+  say: ({ lines }) => machine.say(lines),
+  search: ({ lines, before }) => machine.search(lines, before),
   script: () => ({ script: machine.script(), limit: machine.limit() }),
   views: async () => ({ views: await machine.pastViews() }),
   film: async ({ module, ...files }) => ({ film: await filmOf(module, files) }),
@@ -101,6 +92,13 @@ async function answerTo(call, body) {
   }
 }
 
-onmessage = async ({ data: { id, call, body } }) => {
-  postMessage({ id, answer: await answerTo(call, body) });
+onmessage = async ({ data: { id, call, body, taken } }) => {
+  if (taken) {
+    isTaken = true;
+    post();
+    return;
+  }
+  const answer = await answerTo(call, body);
+  post(); // the page shows what a call has done before it gets the answer
+  postMessage({ id, answer });
 };
