@@ -207,6 +207,8 @@ def end_by_signal(number, _):
     sys.exit(128 + number)
 
 
+# Without this tempfile tries folders by a file in each, which stays there if a signal comes.
+tempfile.tempdir = os.environ.get("TMPDIR") or "/tmp"
 for each_pipe in map(int, BESIDE.split() if BESIDE else ()):
     os.set_inheritable(each_pipe, False)
 signal.signal(signal.SIGTERM, end_by_signal)
