@@ -15,6 +15,7 @@ from judge import AGC, CONSOLE, STUDY, TOP, attempt, depends_on_time, finish, ju
 from notes import try_notes
 from places import try_places
 from reading import LAMPS, faults_of, wrong_line
+from replays import REPLAYS, try_kinds, try_replay
 from searches import search
 from session import Session, meaning
 from walks import walk
@@ -486,9 +487,12 @@ for each in seeds:
         walk(console, study, files_of(dice, each)[0], dice, an_event, scratch)
         rope, script = files_of(dice, each)
         search(console, study, rope, script, dice, an_event, scratch)
+        if each < REPLAYS or len(sys.argv) > 1:
+            try_replay(each, random_rope, an_event)
     except (EOFError, IndexError, subprocess.CalledProcessError) as error:
         judge(f"seed {each}", "answers", repr(error))
 if len(sys.argv) == 1:
+    try_kinds()
     depends_on_time()
     try_odd_uses()
     attempt(try_terminal)

@@ -1,8 +1,8 @@
-// emulator ROPE SCRIPT LIMIT: runs a rope with a script up to a cycle and prints what `agc ROPE SCRIPT --limit LIMIT --log`
-// prints. It was written from docs/SPECIFICATION.md alone and shares no code with agc.
+// emulator ROPE SCRIPT LIMIT [memory]: runs a rope with a script up to a cycle and prints what `agc ROPE SCRIPT --limit LIMIT
+// --log` prints. With `memory` a line with the registers follows, then one for each of the erasable cells. It was written from
+// docs/SPECIFICATION.md alone and shares no code with agc.
 //
-// It takes the classic form of a rope and the events that a flight has. It ends with status 3 at what it does not know: TIME6's
-// switch, the shifts of INLINK, a faulty line.
+// It takes the classic form of a rope, and ends with status 3 at a faulty line of a script.
 #include <stdarg.h>
 #include <stdint.h>
 #include <stdio.h>
@@ -12,15 +12,16 @@
 typedef uint16_t word; // 15 bits if it is narrow, 16 if it is wide
 
 enum { A, L, Q, EB, FB, Z, BB };
-enum { ZRUPT = 015, BRUPT = 017, CYR = 020, SR, CYL, EDOP, TIME2 = 024, TIME1, TIME3, TIME4, TIME5 };
-enum { T5RUPT = 2, T3RUPT, T4RUPT, KEYRUPT1 };
+enum { ZRUPT = 015, BRUPT = 017, CYR = 020, SR, CYL, EDOP, TIME2 = 024, TIME1, TIME3, TIME4, TIME5, TIME6, INLINK = 045 };
+enum { T6RUPT = 1, T5RUPT, T3RUPT, T4RUPT, KEYRUPT1, UPRUPT = 7 };
 enum { BANKS = 044, CELLS = 2048 };
 
 static word fixed[BANKS][1024], cells[CELLS], channels[01000];
 static word a, l, q, eb, fb, z, in_hand;
 static int is_extra, is_inhibited, is_serving, is_held; // is_held: the last order was EXTEND or INDEX
 static unsigned requested;                              // interrupts, by their numbers
-static uint64_t cycle, begun;                           // begun: the cycle at which the order in hand began
+static uint64_t cycle, begun;                           // begun: the cycle at which the boundary began
+static uint64_t periods;                                // of TIME6: those that count as taken
 static const char *stopped;
 
 static void end(const char *form, ...) {
@@ -47,6 +48,11 @@ static int overflow(word wide) { return wide >> 14 == 1 ? 1 : wide >> 14 == 2 ? 
 static word sum(word one, word other) {
     uint32_t both = (uint32_t)one + other;
     return both > 0177777 ? both - 0177777 : both;
+}
+
+// One step towards zero for a number that is not a zero
+static word nearer_zero(word wide) {
+    return abs(value(wide)) == 1 ? 0177777 : sum(wide, of_value(is_minus(wide) ? 1 : -1));
 }
 
 // A narrow word of a magnitude and a sign
@@ -152,13 +158,18 @@ static word channel(int number) {
     return wide(channels[number]);
 }
 
+// Gives a channel from 5 on its word. If that turns TIME6's switch on, the periods that had ended by then are over.
+static void keep(int number, word narrow) {
+    if (number == 013 && narrow & ~channels[013] & 040000) periods = 12 * begun / 640;
+    channels[number] = number == 7 ? narrow & 0160 : narrow;
+}
+
 static void set_channel(int number, word wide) {
     word narrow = corrected(wide);
     if (number == 1) l = narrow;
     if (number == 2) q = wide;
     if (number < 5) return;
-    channels[number] = number == 7 ? narrow & 0160 : narrow;
-    if (number == 013 && narrow & 040000) end("TIME6 is not known here");
+    keep(number, narrow);
     if (number == 010) rows[narrow >> 11] = narrow & 03777;
     if (number == 011) lamps = narrow;
     if (count == room) writes = realloc(writes, (room = 2 * room + 4096) * sizeof *writes);
@@ -289,7 +300,7 @@ static void diminish(int address) {
     cycle += 2;
     word found = get(address);
     if (is_zero(found)) return;
-    put(address, abs(value(found)) == 1 ? 0177777 : sum(found, of_value(is_minus(found) ? 1 : -1)));
+    put(address, nearer_zero(found));
 }
 
 static void input_output(int kind, int number) {
@@ -365,7 +376,6 @@ static void extra(word order) {
 static void run_order(void) {
     int extracode = is_extra;
     is_extra = is_held = 0;
-    begun = cycle;
     if (extracode) extra(in_hand);
     else basic(in_hand);
 }
@@ -384,6 +394,15 @@ static int count_up(int cell) {
     return overflow(more) > 0;
 }
 
+// TIME6 counts down to a zero, which the next step finds.
+static void step_time6(void) {
+    word now = wide(cells[TIME6]);
+    cycle += 1;
+    periods += 1;
+    if (is_zero(now)) requested |= 1u << T6RUPT, channels[013] &= 037777;
+    else cells[TIME6] = corrected(nearer_zero(now));
+}
+
 static int step_timer(void) {
     for (struct timer *timer = timers; timer < timers + 4; timer++) {
         if (12 * cycle < timer->due) continue;
@@ -394,7 +413,9 @@ static int step_timer(void) {
         }
         return 1;
     }
-    return 0;
+    if (!(channels[013] & 040000) || 12 * cycle / 640 <= periods) return 0;
+    step_time6();
+    return 1;
 }
 
 static int interrupt(void) {
@@ -429,13 +450,21 @@ static int code_of(const char *key) {
     return 0;
 }
 
+static void shift(int cell, int digit) {
+    int carries = cells[cell] >> 14;
+    cells[cell] = (cells[cell] << 1 & 077777) | digit;
+    if (carries && cell == INLINK) requested |= 1u << UPRUPT;
+}
+
 static void pulse(int cell, const char *kind) {
     word now = cells[cell];
     if (!strcmp(kind, "pinc")) cells[cell] = corrected(sum(wide(now), 1));
     else if (!strcmp(kind, "minc")) cells[cell] = corrected(sum(wide(now), of_value(-1)));
     else if (!strcmp(kind, "pcdu")) cells[cell] = (now + 1) & 077777;
     else if (!strcmp(kind, "mcdu")) cells[cell] = (now - 1) & 077777;
-    else end("no pulse that is known here: %s", kind);
+    else if (!strcmp(kind, "shinc")) shift(cell, 0);
+    else if (!strcmp(kind, "shanc")) shift(cell, 1);
+    else end("no pulse: %s", kind);
     cycle += 1;
 }
 
@@ -444,7 +473,7 @@ static void happen(const char *text) {
     sscanf(text, "%15s %15s %15s %15s", does, one, two, three);
     if (!strcmp(does, "key")) channels[015] = code_of(one), requested |= 1u << KEYRUPT1;
     else if (!strcmp(does, "pro")) channels[032] = (channels[032] & ~020000) | (strcmp(one, "up") ? 0 : 020000);
-    else if (!strcmp(does, "input")) channels[octal(one)] = octal(two);
+    else if (!strcmp(does, "input")) keep(octal(one), octal(two));
     else if (!strcmp(does, "pulse")) pulse(octal(one), two);
     else if (!strcmp(does, "raise")) requested |= 1u << atoi(one);
     else if (!strcmp(does, "poke")) cells[octal(one) << 8 | octal(two)] = octal(three);
@@ -481,6 +510,7 @@ static void read_script(const char *name) {
 
 static void run(uint64_t limit) {
     while (!stopped) {
+        begun = cycle;
         if (cycle >= limit) stopped = "Limit";
         else if (next < known && cycle >= events[next].cycle) happen(events[next++].text);
         else if (!step_timer() && !interrupt()) run_order();
@@ -532,8 +562,14 @@ static void print_panel(void) {
     puts(*before == ' ' ? " none" : "");
 }
 
+static void print_memory(void) {
+    printf("A %06o L %05o Q %06o Z %04o EB %o FB %02o BB %05o\n", a, l, q, z, eb >> 8, fb >> 10, fb | eb >> 8);
+    for (int cell = 0; cell < CELLS; cell++)
+        printf("%05o\n", cell < 010 ? corrected(get(cell)) : cells[cell]);
+}
+
 int main(int words, char **word_of) {
-    if (words != 4) end("emulator ROPE SCRIPT LIMIT");
+    if (words != 4 && (words != 5 || strcmp(word_of[4], "memory"))) end("emulator ROPE SCRIPT LIMIT [memory]");
     read_rope(word_of[1]);
     read_script(word_of[2]);
     run(strtoull(word_of[3], NULL, 10));
@@ -541,5 +577,6 @@ int main(int words, char **word_of) {
     printf("STOP %s CYCLE %lu WRITES %zu\n", stopped, (unsigned long)cycle, count);
     for (size_t i = 0; i < count; i++)
         printf("%lu %03o %05o\n", (unsigned long)writes[i].cycle, writes[i].channel, writes[i].word);
+    if (words == 5) print_memory();
     return 0;
 }

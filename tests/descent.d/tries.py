@@ -18,6 +18,7 @@ import assembler
 import craft as example
 import exact
 from agc import Console
+from emulator import compile_emulator
 from judge import AGC, CONSOLE, STUDY, attempt, finish, judge, near, scratch_folder
 from uplinks import try_uplink
 
@@ -106,13 +107,6 @@ def ran(*words):
 
 
 EMULATOR = os.path.join(scratch, "emulator")
-
-
-def compile_emulator():
-    """Compiles the emulator in C beside this file, which was written from docs/SPECIFICATION.md and shares no code with agc."""
-    source = os.path.join(os.path.dirname(os.path.realpath(__file__)), "emulator.c")
-    done = ran("cc", "-O2", "-Wall", "-Wextra", "-Werror", "-o", EMULATOR, source)
-    judge("the emulator compiles", (0, ""), (done.returncode, done.stderr))
 
 
 def emulated(script, cycle):
@@ -1784,7 +1778,7 @@ def main():
     def wanted(name):
         return len(sys.argv) == 1 or name in sys.argv[1:]
 
-    compile_emulator()
+    compile_emulator(EMULATOR)
     with multiprocessing.Pool(JOBS) as pool:
         running = wanted("try_hour") and pool.map_async(hour, [0], 1)
         counted = wanted("try_flown") and pool.map_async(flown, [0], 1)
