@@ -239,7 +239,18 @@ def try_link():
     judge('nothing ran', 0, page.value('window.ran ?? 0'))
     page.value(f"location.hash = 'session={packed(good)}'; undefined")
     judge('a good session is opened', 'x', page.see("document.getElementById('rope').textContent", 'x'))
+    try_faulty_link(page)
     page.close()
+
+
+def try_faulty_link(page):
+    """A page that opens with a faulty link says why, whatever it shows instead: the kept session, or the first example."""
+    refused = 'The session of the link cannot be opened: it is cut off, or no session.'
+    page.open_file('#session=!!')
+    judge('a faulty link, beside the kept session', ('Lander', refused), (page.text('rope'), page.see("document.getElementById('notice-text').textContent", refused)))
+    page.value('forget()')
+    page.open_file('#session=!!')
+    judge('a faulty link alone', ('Verbs and nouns', refused), (page.text('rope'), page.see("document.getElementById('notice-text').textContent", refused)))
 
 
 def try_linked_guide(page):

@@ -45,8 +45,10 @@ async function openFirst() {
     say(TOO_OLD);
     return;
   }
-  const isOpen = (location.hash.startsWith(MARK) && await openLink()) || await openKept();
-  if (!isOpen) await openExample(FIRST);
+  const isLinked = location.hash.startsWith(MARK) && await openLink();
+  const refused = isLinked ? '' : find('notice-text').textContent; // the session in the link's place takes the sentence away
+  if (!isLinked && !await openKept()) await openExample(FIRST);
+  if (refused) say(`${refused} ${find('notice-text').textContent}`.trim());
   openLinkedSource();
 }
 
