@@ -122,15 +122,40 @@ def try_example():
     buttons = "[...document.querySelectorAll('#strip-buttons button')].map((each) => each.textContent)"
     offered = ['Lamp test', 'Landing on the Moon', 'Land with alarm 1202', 'First program', 'More …', '✕']
     judge('guides are offered', offered, page.see(buttons, offered))
+    orders = "[document.querySelectorAll('#ahead li').length, find('orders-note').hidden]"
+    judge('what comes is shown, and nothing asks for a pause', [12, True], page.see(orders, [12, True]))
+    try_strip(page)
     lessons = ['First program', 'A table', 'An interrupt', 'Ten digits', 'Find a fault']
     judge('the lessons', lessons, page.value("[...document.querySelectorAll('#lesson-list button')].map((each) => each.textContent)"))
     page.value("document.querySelector('[data-example=\"count-1\"]').click(); undefined")
     judge('a lesson has its guide', True, page.see("guiding.guides.map((each) => each.title).join()", 'First program') == 'First program')
     page.value("openExample('verbs').then(() => { find('play').click(); return 0; })")
     judge('it runs', 'running', page.state('running'))
+    page.type('v', '3', '5', 'Enter')
+    judge('all is lit', True, page.see("isLit('OPR ERR')", True))
+    page.type('r')
+    judge('the lamps go out', False, page.see("isLit('OPR ERR')", False))
+    page.value("beginGuideNamed('Lamp test'); undefined")
+    judge('its guide begins, and does not end at once', True, page.text('strip-what').startswith('Type VERB 3 5 ENTR'))
+    page.value("find('strip-buttons').lastChild.click()")
     page.value("[...document.querySelectorAll('#strip-buttons button')].find((each) => each.textContent === 'Landing on the Moon').click()")
     judge('a session that has begun is not left by one click', (True, 'Verbs and nouns'), (page.value("find('open').open"), page.text('rope')))
+    judge('the dialog begins with what it ends', True, page.value("find('open').querySelector('p').textContent").startswith('Opening ends the session that is shown.'))
+    page.window.resize(360, 740)
+    judge('on a phone it is no wider than the screen', True, page.see("(({ left, right }) => left >= 0 && right <= innerWidth)(find('open').getBoundingClientRect())", True))
     page.close()
+
+
+def try_strip(page):
+    """On a phone the strip stays in sight while a guide is followed, and a choice of guides scrolls away."""
+    page.window.resize(360, 740)
+    place = "getComputedStyle(find('strip')).position"
+    judge('a choice of guides', 'static', page.value(place))
+    page.value("beginGuideNamed('Lamp test'); undefined")
+    judge('a guide', 'sticky', page.value(place))
+    page.value("find('strip-buttons').lastChild.click()")
+    judge('a choice once more', 'static', page.value(place))
+    page.window.resize(*web.SIZE)
 
 
 def try_words():

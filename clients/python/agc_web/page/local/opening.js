@@ -202,13 +202,13 @@ function openingDialog() {
   input.addEventListener('change', choose(() => openFiles([...input.files]).then(() => { input.value = ''; })));
   return make('dialog', { id: 'open', 'aria-labelledby': 'open-title' },
     make('h2', { id: 'open-title' }, 'Open'),
+    make('p', { class: 'note' }, 'Opening ends the session that is shown. This browser keeps one session; nothing leaves this page.'),
     make('ul', { id: 'example-list', 'aria-label': 'Examples' }, ...listed(false)),
     make('p', {}, 'Lessons with guided steps:'),
     make('ul', { id: 'lesson-list', 'aria-label': 'Lessons' }, ...listed(true)),
     ...(HAS_ASSEMBLER ? sourcesToChange(choose) : []),
     make('p', {}, make('label', {}, 'Your rope, with its script and names if you like: ', input)),
     make('p', {}, make('label', {}, make('input', { type: 'checkbox', id: 'parity' }), ' with parity bits'), ' (you may also drop files on the page)'),
-    make('p', { class: 'note' }, 'Opening ends the session that is shown. This browser keeps one session; nothing leaves this page.'),
     make('p', { class: 'row' }, button('Forget the kept session', choose(forgetAndSay), { id: 'forget' }),
       button('Download the one put aside', () => download('other.script', scriptIn(keptAside())), { id: 'aside' }),
       button('Close', () => find('open').close(), { id: 'open-close' })));

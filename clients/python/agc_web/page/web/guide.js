@@ -245,6 +245,7 @@ function showStrip() {
   const says = JSON.stringify([title, what, why, buttons.map(({ label }) => label)]);
   if (guiding.says === says) return;
   guiding.says = says;
+  find('strip').classList.toggle('followed', Boolean(stepNow()));
   setText(find('strip-title'), title);
   setText(find('strip-what'), what);
   setText(find('strip-why'), why);

@@ -90,8 +90,8 @@ function showHistory(lines) {
     button.addEventListener('click', () => ask('go', { cycle }));
     return make('li', {}, button);
   }));
-  find('orders-note').hidden = lines.length > 0;
   find('here').hidden = lines.length === 0;
+  showNote();
   if (hadFocus && lines.length) find('history').lastChild.firstChild.focus();
   scrollHistory();
 }
@@ -116,7 +116,13 @@ function showAhead(lines) {
     const { cycle, what } = boundary(line);
     return make('li', {}, make('span', { class: 'at' }, grouped(cycle)), make('span', { class: 'what' }, what));
   }));
+  showNote();
   scrollHistory();
+}
+
+// Says how to see the boundaries if none is shown; at cycle 0 only the coming ones are.
+function showNote() {
+  find('orders-note').hidden = find('history').children.length + find('ahead').children.length > 0;
 }
 
 // memory, cells and channels: what the tab that is shown needs is asked for, at most every fifth of a second

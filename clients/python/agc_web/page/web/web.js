@@ -87,7 +87,7 @@ function stateOf(time) {
 
 function showTrouble() {
   const lost = reached ? '' : session.lost;
-  setText(find('trouble'), [lost, now.ended, now.trouble, fault].filter(Boolean).join(' '));
+  setText(find('trouble'), [lost, now.ended, now.trouble, fault].filter(Boolean).join(LINE));
 }
 
 const SHOWS = {

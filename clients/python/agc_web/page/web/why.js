@@ -48,10 +48,11 @@ const known = (names) => names.filter((name) => why.names.has(name));
 
 // going back
 
-// Searches backwards. Returns what was found, or null, and shows why.
+// Searches backwards. Returns what was found, or null, and shows why; of alarms in their own words.
 async function seek(places, before) {
   const answer = await request(() => session.find({ places, before }));
-  if (answer) showFault(answer.error || '');
+  const isNone = answer?.status === 409 && places.every((place) => ALARMS.includes(place));
+  if (answer) showFault(isNone ? 'There was no alarm up to here.' : answer.error || '');
   return answer?.status === 200 ? answer : null;
 }
 
