@@ -6,7 +6,7 @@ import sys
 from agc import Console
 from agc_web.ticks import Ticker
 from judge import CONSOLE, TOP, judge
-from local import LocalPage, LocalSite
+from local import LocalPage, LocalSite, web
 from site_of import example, wait
 import whys
 
@@ -134,4 +134,14 @@ def try_why():
     page.close()
 
 
-TRIES = (try_flights, try_why)
+def try_full():
+    """A script that is full stops time by its sentence."""
+    page = LocalPage(LocalSite(example('verbs', 'rope')))
+    page.site.open('descent', script=web.FULL)
+    page.site.do('play')
+    judge('a full script', web.FULL_SAYS, page.see("document.getElementById('trouble').textContent", web.FULL_SAYS))
+    judge('time stops', 'paused', page.state('paused'))
+    page.close()
+
+
+TRIES = (try_flights, try_why, try_full)

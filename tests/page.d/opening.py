@@ -92,6 +92,7 @@ def try_parity(page):
     page.click('#parity')
     page.click('#open-close')
     judge('a rope with parity', '', choose(page, rope))
+    judge('what repeats its session', True, page.see("document.getElementById('script-rope').textContent", 'ROPE --form parity') == 'ROPE --form parity')
     judge('it is there', 'rope', page.text('rope'))
     wanted = refusal(example('bad-parity', 'rope'), os.devnull)
     with Console(rope, form='parity', program=[CONSOLE]) as console:

@@ -125,6 +125,8 @@ def try_example():
     orders = "[document.querySelectorAll('#ahead li').length, find('orders-note').hidden]"
     judge('what comes is shown, and nothing asks for a pause', [12, True], page.see(orders, [12, True]))
     try_strip(page)
+    repeats = "document.querySelector('#script-panel .note').textContent"
+    judge('what repeats the session', 'This repeats the session: ./agc examples/verbs/rope session.script --limit ', page.value(repeats).rstrip('0123456789'))
     lessons = ['First program', 'A table', 'An interrupt', 'Ten digits', 'Find a fault']
     judge('the lessons', lessons, page.value("[...document.querySelectorAll('#lesson-list button')].map((each) => each.textContent)"))
     page.value("document.querySelector('[data-example=\"count-1\"]').click(); undefined")

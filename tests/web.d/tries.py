@@ -53,6 +53,8 @@ FOLDER, BROWSER = scratch_folder(), os.environ['BROWSER']
 PICTURES, FIGURES = os.environ.get('PICTURES'), os.environ.get('FIGURES')
 AT_ONCE = int(os.environ.get('AT_ONCE', 2))  # tries: most of their time they wait
 A_SECOND = 1024000 / 12  # cycles
+FULL = '1000000000 poke 0 100 1\n' * 65536  # a script that takes no more
+FULL_SAYS = 'Time stops: the script is full, with 65,536 events. Going back makes room.'
 TENTH = 8533
 SIZE = (1000, 700)
 PHONE = (390, 844)
@@ -971,6 +973,22 @@ def try_views():
                 session.close()
 
 
+def try_full():
+    """A script that is full takes no event of an instrument: time stops, and the page says what helps."""
+    path = os.path.join(FOLDER, 'full')
+    with open(path, 'w', encoding='ascii') as file:
+        file.write(FULL)
+    with Console(example('keys', 'rope'), path, program=[CONSOLE], detached=True) as console:
+        pulsing = whys.Pulsing()
+        pulsing.more = 1
+        session = Session(console, [pulsing])
+        session.play()
+        shown = lambda: json.loads(session.news.since(0, 0)[1])['time']
+        wait(lambda: shown()['trouble'])
+        judge('a full script', (False, FULL_SAYS), (shown()['playing'], shown()['trouble']))
+        session.close()
+
+
 def try_look():
     """A look at the machine that is refused, and once more as time stops, ends no session: it says why."""
     with Console(example('keys', 'rope'), program=[CONSOLE], detached=True) as console:
@@ -1564,7 +1582,7 @@ def picture(page, name):
 TRIES = (
     *buttons.TRIES, *guides.TRIES, *listed.TRIES, *filmed.TRIES, *whys.TRIES, *storms.TRIES, *views.TRIES, try_install, try_pace,
     try_session, try_changes, try_pro, try_keys_rope, try_many_cells, try_sizes, try_policy, try_ports, try_refusals, try_port,
-    try_writes, try_views, try_look, try_rate, try_latency, try_killed, try_end, try_blanks, try_two, try_command,
+    try_writes, try_views, try_full, try_look, try_rate, try_latency, try_killed, try_end, try_blanks, try_two, try_command,
     try_serve, try_gone, try_hangup, try_lander, try_late_view, try_names_and_pictures, try_stop, try_random, try_face,
     try_client, *ends.TRIES, *rooms.TRIES, *times.TRIES, *found.TRIES, *listens.TRIES, *looks.TRIES, *quantities.TRIES,
     *nouns.TRIES, *timelines.TRIES, *causes.TRIES, *stepped.TRIES, *lesson.TRIES, *texts.TRIES,

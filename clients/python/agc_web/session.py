@@ -27,6 +27,7 @@ __all__ = ["HISTORY", "KEYS", "KEY_GAP", "NEWS", "SPEEDS", "Session", "Sure", "U
 
 AHEAD = 12  # coming boundaries that are shown
 LONGEST_STEP = 1_000_000  # cycles that `over` and `finish` may take
+FULL = "Time stops: the script is full, with 65,536 events. Going back makes room."
 MOST_BREAKPOINTS = 8
 MOST_WAITING = 100  # keys
 WAKE = 0.01  # seconds between two pieces
@@ -167,7 +168,7 @@ class Session:
         except Ended:
             raise
         except Exception as error:  # of an instrument, or of a full script
-            self.trouble = str(error) or repr(error)
+            self.trouble = FULL if getattr(error, "name", "") == "TooMany" else str(error) or repr(error)
             self._stand()
             with suppress(Exception):  # the first fault is shown; the thread continues, so that the script can be saved
                 self._look_inside()

@@ -153,6 +153,13 @@ const session = {
     return head + answer.film + tail.replace('</body>', () => `${more}</body>`);
   },
 
+  // The rope as agc takes it, beside the script of the session: an example's by its path.
+  ropeOfScript() {
+    const { example, form } = session.files;
+    const isExample = example && storedFiles(session.files).rope === EXAMPLES[example].rope;
+    return (isExample ? `examples/${example}/rope` : 'ROPE') + (form === 'parity' ? ' --form parity' : '');
+  },
+
   // What is to be kept of the session.
   kept: () => ({ ...engine.kept, events: engine.events }),
 };

@@ -31,6 +31,7 @@ function showAbout(given) {
   find('phones-button').hidden = !about.phones;
   find('timeline').hidden = !about.watch || !session.timelineAddress; // agc.html has no agc-study that makes one
   setText(find('phones-address'), about.phones || '');
+  setText(find('script-rope'), session.ropeOfScript?.() ?? 'ROPE');
   keepNames(about);
   keepListing(about);
   keepQuantities(about);

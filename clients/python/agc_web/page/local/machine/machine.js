@@ -18,6 +18,7 @@ const NEWS_FAST = 0.04; // and if time goes this many times as fast as the hardw
 const FAST = 100;
 const AT_ONCE = 500; // events that the console gets in one text
 const LONGEST_STEP = 1000000; // cycles that `over` and `finish` may take
+const FULL = 'Time stops: the script is full, with 65,536 events. Going back makes room.';
 
 // Whether the user gave an event. That PRO came up is none: if its going down stays, going back lets it come up.
 const isPress = (event) => event.byUser && event.command !== 'pro up';
@@ -169,7 +170,7 @@ export class Machine {
         this.#noteEnd(error);
         return;
       }
-      this.trouble = error.message; // of an instrument, or of a full script
+      this.trouble = error.fault === 'TooMany' ? FULL : error.message; // of an instrument, or of a full script
       try {
         this.#stand();
         await this.#look();
