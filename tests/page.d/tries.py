@@ -133,15 +133,19 @@ def try_example():
     judge('a lesson has its guide', True, page.see("guiding.guides.map((each) => each.title).join()", 'First program') == 'First program')
     page.value("openExample('verbs').then(() => { find('play').click(); return 0; })")
     judge('it runs', 'running', page.state('running'))
-    page.type('v', '3', '5', 'Enter')
+    page.value("find('play').focus()")
+    page.type('v', '3', '5', 'Escape', 'Enter')
     judge('all is lit', True, page.see("isLit('OPR ERR')", True))
     page.type('r')
     judge('the lamps go out', False, page.see("isLit('OPR ERR')", False))
     page.value("beginGuideNamed('Lamp test'); undefined")
     judge('its guide begins, and does not end at once', True, page.text('strip-what').startswith('Type VERB 3 5 ENTR'))
     page.value("find('strip-buttons').lastChild.click()")
-    page.value("[...document.querySelectorAll('#strip-buttons button')].find((each) => each.textContent === 'Landing on the Moon').click()")
-    judge('a session that has begun is not left by one click', (True, 'Verbs and nouns'), (page.value("find('open').open"), page.text('rope')))
+    for title, name in (('Landing on the Moon', 'descent'), ('First program', 'count-1')):
+        page.value("find('open').close()")
+        page.value(f"[...document.querySelectorAll('#strip-buttons button')].find((each) => each.textContent === '{title}').click()")
+        judge(f'{title}: a session that has begun is not left by one click', (True, 'Verbs and nouns'), (page.value("find('open').open"), page.text('rope')))
+        judge('the dialog is at what was chosen', name, page.value('document.activeElement.dataset.example'))
     judge('the dialog begins with what it ends', True, page.value("find('open').querySelector('p').textContent").startswith('Opening ends the session that is shown.'))
     page.window.resize(360, 740)
     judge('on a phone it is no wider than the screen', True, page.see("(({ left, right }) => left >= 0 && right <= innerWidth)(find('open').getBoundingClientRect())", True))
@@ -149,8 +153,14 @@ def try_example():
 
 
 def try_strip(page):
-    """On a phone the strip stays in sight while a guide is followed, and a choice of guides scrolls away."""
+    """On a phone the strip stays in sight while a guide is followed, and a choice of guides scrolls away; a finger hits each tab and
+    the slider, and the longest title of an example has two lines."""
     page.window.resize(360, 740)
+    heights = "[find('orders-tab'), find('slider')].map((each) => each.getBoundingClientRect().height)"
+    judge('tabs and slider are high enough', True, min(page.value(heights)) >= 28)
+    page.value("find('rope').textContent = 'Landing on the Moon'")
+    judge('two lines of the title', True, page.value("document.querySelector('h1').getBoundingClientRect().height") < 40)
+    page.value("find('rope').textContent = 'Verbs and nouns'")
     place = "getComputedStyle(find('strip')).position"
     judge('a choice of guides', 'static', page.value(place))
     page.value("beginGuideNamed('Lamp test'); undefined")

@@ -16,7 +16,7 @@ HELP = {
     '0–9 + -': 'the keys with these signs', 'v n Enter': 'VERB, NOUN, ENTR', 'c k r': 'CLR, KEY REL, RSET', 'p': 'PRO, as long as it is held',
     'Space': 'time stops, or goes on', '.': 'one boundary on', 'Backspace': 'back by a second; by a tenth if time stands',
     'D': 'back to the last change of the panel', '< >': 'slower, faster', 'u': 'undo going back',
-    'f': 'fills the screen, for a projector; again, or Escape: back',
+    'Escape': 'leaves a button or a field, so that Enter is ENTR', 'f': 'fills the screen, for a projector; again, or Escape: back',
 }
 STEPS = {
     '◀ Finish': 'Back to the call of this routine', '◀ Over': 'Back over the call before this line', '◀ Step': 'Back by a boundary',

@@ -172,9 +172,16 @@ function buildOpening() {
 }
 
 // Buttons of the strip: the other examples that begin with a guide. Each opens its example and begins a guide. If the
-// session that is shown has begun, the dialog opens first.
+// session that is shown has begun, the dialog opens first, at that example.
 function otherGuides() {
-  const open = (...chosen) => (now.cycle || engine.events.length ? showOpening() : openWithGuide(...chosen));
+  const open = (name, title) => {
+    if (!now.cycle && !engine.events.length) {
+      openWithGuide(name, title);
+      return;
+    }
+    showOpening();
+    find('open').querySelector(`[data-example="${name}"]`).focus();
+  };
   const others = OFFERED.filter(([name]) => name !== session.files?.example);
   const offer = (label, action) => ({ label, build: () => button(label, action) });
   return [...others.map(([name, title]) => offer(title || EXAMPLES[name].title, () => open(name, title))), offer('More …', showOpening)];

@@ -170,7 +170,7 @@ function wantsKey(element, key) {
 
 function onKeyDown(event) {
   byPointer = false;
-  if (event.key === 'Escape' && event.target.closest('input')) event.target.blur();
+  if (event.key === 'Escape' && event.target.closest('input, select, button')) event.target.blur(); // Enter is ENTR again
   if (event.ctrlKey || event.altKey || event.metaKey || wantsKey(event.target, event.key)) return;
   const name = keyTyped(event.key);
   const shortcut = SHORTCUTS[event.key];
