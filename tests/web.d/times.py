@@ -162,7 +162,7 @@ def try_woven_anew():
     site.do('play')
     for name in '42':
         site.do('key', name=name)
-    wait(lambda: len(keys_in(site.script())) == 2)
+    wait(lambda: site.state()['panel']['NOUN'] == '42')
     shutil.copy(example('verbs', 'rope'), rope)
     site.do('pause')
     wait(lambda: len(site.state()['ahead']) == 12)
