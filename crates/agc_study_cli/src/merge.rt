@@ -7,25 +7,6 @@ use agc_study_args::{Args, DumpArgs, MOST_DUMPS, MergeArgs};
 use clap::ArgMatches;
 use std::alloc::Global;
 
-/// The names of the readings that `merge` takes: those of `convert`, also with the two bytes of each word exchanged.
-pub(crate) static DUMP_READINGS: [&str; 12] = [
-    "classic",
-    "parity",
-    "plain",
-    "classic-parity",
-    "parity-first",
-    "classic-parity-first",
-    "classic-swapped",
-    "parity-swapped",
-    "plain-swapped",
-    "classic-parity-swapped",
-    "parity-first-swapped",
-    "classic-parity-first-swapped",
-];
-
-/// The names of the changes of bits that `merge` takes.
-pub(crate) static DUMP_CHANGES: [&str; 4] = ["none", "inverted", "word-inverted", "reversed"];
-
 /// The options that apply to the dumps after them.
 static DUMP_OPTIONS: [&str; 3] = ["form", "bits", "first-bank"];
 

@@ -11,25 +11,6 @@ use agc_word::read_octal;
 use clap::ArgMatches;
 use std::alloc::Global;
 
-/// The names of the readings that `convert` takes.
-pub(crate) static READINGS: [&str; 6] = [
-    "classic",
-    "parity",
-    "plain",
-    "classic-parity",
-    "parity-first",
-    "classic-parity-first",
-];
-
-/// The names of the changes of bits that `convert` takes.
-pub(crate) static CHANGES: [&str; 3] = ["inverted", "word-inverted", "reversed"];
-
-/// The moves of all words that `convert` undoes.
-pub(crate) static MOVES: [&str; 2] = ["on", "back"];
-
-/// The texts of numbers that `convert` reads and writes.
-pub(crate) static RADICES: [&str; 2] = ["octal", "hex"];
-
 /// The most repairs of a word: it has sixteen bits.
 const MOST_REPAIRS: u64 = 16;
 
