@@ -240,6 +240,10 @@ def try_link():
     judge('nothing ran', 0, page.value('window.ran ?? 0'))
     page.value(f"location.hash = 'session={packed(good)}'; undefined")
     judge('a good session is opened', 'x', page.see("document.getElementById('rope').textContent", 'x'))
+    for behind in ('.', '%20', '%3E)'):
+        page.site.open('lander')
+        page.value(f"location.hash = 'session={packed(good)}{behind}'; undefined")
+        judge(f'with {behind} behind it', 'x', page.see("document.getElementById('rope').textContent", 'x'))
     try_faulty_link(page)
     page.close()
 

@@ -58,7 +58,7 @@ async function linkOf(files, kept) {
 
 // Reads the session of a link: {files, kept, chosen}. Throws an error that says what is wrong.
 async function readLink(hash) {
-  const code = hash.slice(MARK.length);
+  const [code] = hash.slice(MARK.length).match(/^[\w-]*/); // a mail may have put a space or a full stop behind it
   if (code.length > LONGEST_LINK) throw new Error('it is too long');
   let text;
   try {
