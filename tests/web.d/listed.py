@@ -116,6 +116,7 @@ def try_lit():
     window = opened(site)
     shown(window)
     site.do('key', name='VERB')
+    judge('the key is there', 1, see(window, 'now.events', 1))
     compare('lit, step by step', folder, site.script(), step(window, 60))
     inside = """(() => {
         const [row, area] = [document.querySelector('.listed.here'), document.getElementById('listing')].map((each) => each.getBoundingClientRect());
