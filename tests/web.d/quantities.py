@@ -281,6 +281,7 @@ def try_keys(site, window, end):
     window.type('Home')
     judge('to the start', 0, see(window, 'now.cycle', 0))
     judge('one sample is left', [[0, False]], see(window, 'plot.samples.map(({ cycle, isGap }) => [cycle, isGap])', [[0, False]]))
+    judge('the page has gone there', False, see(window, 'Boolean(plot.isBusy)', False))
     site.do('go', cycle=end // 2)
     judge('by the slider there is a gap', [False, True], see(window, 'plot.samples.map(({ isGap }) => isGap)', [False, True]))
     label = f"(() => {{ plot.dragged = {end // 4}; drawPlot(); plot.dragged = null; return document.querySelector('#plot-labels p').textContent; }})()"

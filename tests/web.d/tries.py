@@ -570,13 +570,13 @@ def try_breaks(page, site):
 
 
 def press_and_hit(page, site, key, where, after):
-    """Plays, presses a key, and waits for the breakpoint, which is so many cycles after the key."""
+    """Plays, presses a key, and waits for the breakpoint, which is so many cycles after the key, or a cycle or two more."""
     page.click('#play')
     page.state('running')
     page.type(key)
     judge(f'time stops: {where}', f'at breakpoint: {where}', page.state(f'at breakpoint: {where}'))
     settle(page)
-    judge('the cycle of the breakpoint', last_key(site) + after, page.cycle())
+    near('the cycle of the breakpoint', last_key(site) + after + 1, page.cycle(), 1)
 
 
 def last_key(site):
