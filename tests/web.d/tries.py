@@ -543,14 +543,14 @@ def try_breaks(page, site):
     judge('each trouble has its line', 'one\ntwo', page.text('trouble'))
     page.value("now.trouble = ''; showFault(''); undefined")
     page.value("document.getElementById('break-place').value = ''; document.activeElement.blur()")
-    press_and_hit(page, site, '1', 'order at KEYIN', 3)
+    press_and_hit(page, site, '1')
     judge('the order comes next', True, wait(lambda: page.text('next').startswith('4024 KEYIN')))
     judge('the boundary before it', True, wait(lambda: line_of(page, '#history li', len(page.texts('#history li')) - 1).endswith('interrupt KEYRUPT1')))
     page.click('#play')
     page.run_on(5000)  # the service of the key ends
     page.pause()
     judge('a second breakpoint', 200, site.do('break', place='write 10'))
-    press_and_hit(page, site, '3', 'order at KEYIN', 3)
+    press_and_hit(page, site, '3')
     page.click('#play')
     page.state('at breakpoint: write to channel 10')
     settle(page)
@@ -569,14 +569,15 @@ def try_breaks(page, site):
     page.pause()
 
 
-def press_and_hit(page, site, key, where, after):
-    """Plays, presses a key, and waits for the breakpoint, which is so many cycles after the key, or a cycle or two more."""
+def press_and_hit(page, site, key):
+    """Plays, presses a key, and waits for the breakpoint at KEYIN: where the trace has the first order there from the key on."""
     page.click('#play')
     page.state('running')
     page.type(key)
-    judge(f'time stops: {where}', f'at breakpoint: {where}', page.state(f'at breakpoint: {where}'))
+    judge('time stops at KEYIN', 'at breakpoint: order at KEYIN', page.state('at breakpoint: order at KEYIN'))
     settle(page)
-    near('the cycle of the breakpoint', last_key(site) + after + 1, page.cycle(), 1)
+    cycles = [int(line.split()[0]) for line in causes.traced(example('keys', 'rope'), site.script(), page.cycle() + 100, '--at', '4024')]
+    judge('the cycle of the breakpoint', next(cycle for cycle in cycles if cycle >= last_key(site)), page.cycle())
 
 
 def last_key(site):

@@ -457,7 +457,7 @@ def named_key(name: str) -> str:
 
 
 def with_job(way: str, body: Dict[str, Any]) -> str:
-    """Returns a step by calls, in the present job alone if the body names the cell that tells jobs apart."""
+    """Returns a step by calls, in the present job alone if the body names the cell that differs from job to job."""
     return f"{way} job {item(body, 'job', str)}" if "job" in body else way
 
 

@@ -287,7 +287,7 @@ class Session:
             self.journal.history.extend(self.console.step())
 
     def _go_to(self, cycle: int, events: List[Event], since: Optional[int] = None) -> None:
-        """Takes the machine to a cycle, as the journal does, and finds anew what is kept of it."""
+        """Takes the machine to a cycle by the journal, and finds anew what is kept of it."""
         self.journal.go_to(cycle, events, since)
         self._is_dirty = True
         self._keyboard.find(events)
