@@ -8,7 +8,7 @@ use Rattle.agc_store.specs.RopeFile.{rope_words}
 use Rattle.agc_store.specs.declared.rope_file.RopeForm.{RopeForm}
 use Rattle.agc_listing.specs.Laws.{AreRopeWords}
 use Rattle.agc_asm.specs.Laws.{WeavesTo}
-use Rattle.agc_asm.specs.Disassemble.{rope_source}
+use Rattle.agc_encode.specs.Disassemble.{rope_source}
 use Rattle.agc_load.specs.Options.{parsed_by}
 use Rattle.agc_study_args.specs.RopeRead.{rope_refusal}
 use Rattle.agc_study_args.specs.declared.args.ListArgs.{ListArgs}

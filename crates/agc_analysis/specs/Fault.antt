@@ -12,7 +12,8 @@ use Rattle.agc_script.specs.declared.fault.FaultKind.{FaultKind}
 use Rattle.agc_script.specs.declared.fault.FaultKind.TheVariants as kind
 use Rattle.agc_panel.specs.declared.watch_spec.WatchFault.{WatchFault}
 use Rattle.agc_panel.specs.declared.watch_spec.WatchFault.TheVariants as watch
-use Rattle.agc_asm.specs.FaultText.{fault_text, overlap_text}
+use Rattle.agc_asm.specs.FaultText.{overlap_text}
+use Rattle.agc_encode.specs.FaultText.{fault_text}
 use Rattle.agc_asm.specs.declared.fault.AssemblyFault.{AssemblyFault}
 use Rattle.agc_asm.specs.declared.fault.AssemblyFault.TheVariants as source
 use Rattle.agc_analysis.specs.declared.fault.AnalysisFault.{AnalysisFault}

@@ -12,7 +12,7 @@ use Rattle.agc_word.specs.Number.{Number}
 use Rattle.agc_listing.specs.Laws.{AreRopeWords}
 use Rattle.agc_listing.specs.List.{rope_text}
 use Rattle.agc_listing.specs.Order.{order_text}
-use Rattle.agc_asm.specs.Disassemble.{rope_source}
+use Rattle.agc_encode.specs.Disassemble.{rope_source}
 use Rattle.agc_asm.specs.FaultText.{later_fault}
 use Rattle.agc_asm.specs.Laws.{WeavesTo}
 use Rattle.agc_asm.specs.MnemonicCheck.{is_extracode, misnamed_in, mnemonic_of}

@@ -9,11 +9,12 @@ ghost use Rattle.agc_analysis.specs.declared.fault.AnalysisFault.TheVariants as 
 use crate::fault::AnalysisFault;
 use crate::rope_bytes::read_banks;
 use agc_asm::{check_listing, erase_remarks, line_remarks};
-use agc_check::{check, check_keys, check_rope, may_be_modules};
+use agc_check::{check, check_keys, check_rope};
 use agc_dump::looks_like_numbers;
 use agc_io::{KEY_BYTES, ROPE_BYTES, ReadError, TEXT_BYTES, read_limited};
 use agc_listing::Report;
 use agc_load::LoadFault;
+use agc_mend::may_be_modules;
 use agc_store::RopeForm;
 use agc_study_args::RunInputs;
 use agc_text::push_damage;

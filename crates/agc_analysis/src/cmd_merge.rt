@@ -6,13 +6,13 @@ ghost use Rattle.agc_analysis.specs.Ended.{EndsWith};
 use crate::fault::AnalysisFault;
 use crate::rope_bytes::{read_rope_bytes, refused};
 use crate::streams::Streams;
-use agc_check::{
-    Choice, Decision, Dump, DumpWord, file_of_words, is_bad_parity, merge, words_at,
-    words_of_choices,
-};
 use agc_io::{OK, ROPE_BYTES, status_of, write_in_full};
 use agc_listing::push_rope_place;
 use agc_load::LoadFault;
+use agc_mend::{
+    Choice, Decision, Dump, DumpWord, file_of_words, is_bad_parity, merge, words_at,
+    words_of_choices,
+};
 use agc_store::place::FIXED_WORDS;
 use agc_study_args::{DumpArgs, MergeArgs, open_file, read_dump};
 use agc_word::Narrow;

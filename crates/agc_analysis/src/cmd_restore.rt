@@ -6,13 +6,15 @@ use crate::fault::AnalysisFault;
 use crate::rope_bytes::{WrittenRope, patched_rope, read_banks, written_rope};
 use crate::streams::Streams;
 use agc_check::{
-    BadWord, BitChange, Damage, FileRepairs, MOST_REPAIRED, bad_words, damaged_store, file_repairs,
-    file_words, may_be_modules, push_reading, push_stuck, push_sum_line, sum_in_bank,
+    Damage, FileRepairs, MOST_REPAIRED, file_repairs, push_reading, push_stuck, push_sum_line,
 };
 use agc_io::{OK, ROPE_BYTES, TEXT_BYTES, status_of, write_in_full};
 use agc_listing::push_rope_place;
 use agc_load::LoadFault;
-use agc_mend::{ColumnRepairs, explain_most, repairs_of_columns};
+use agc_mend::{
+    BadWord, BitChange, ColumnRepairs, bad_words, damaged_store, explain_most, file_words,
+    may_be_modules, repairs_of_columns, sum_in_bank,
+};
 use agc_store::RopeForm;
 use agc_store::place::FIXED_BANKS;
 use agc_study_args::{ConvertArgs, ConvertedRope, PatchArgs, RepairArgs, SumsArgs, open_file};

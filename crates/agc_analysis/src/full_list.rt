@@ -4,9 +4,9 @@ ghost use Rattle.agc_store.specs.Places.{fixed_words};
 
 use crate::fault::AnalysisFault;
 use crate::ropes::{ListedRope, bank_of};
-use agc_check::file_words;
 use agc_listing::{leads_on, next_is_extracode, push_order, push_rope_place};
 use agc_load::LoadFault;
+use agc_mend::file_words;
 use agc_store::place::{FIXED_WORDS, bank_of as bank_of_place};
 use agc_store::{RopeForm, Store, index_in_file};
 use agc_study_args::{ListArgs, RopeRead, read_any_rope};

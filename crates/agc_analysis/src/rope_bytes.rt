@@ -7,15 +7,15 @@ use crate::fault::AnalysisFault;
 use crate::full_list::full_list;
 use crate::ropes::{ListedRope, listed_rope};
 use agc_asm::{AssemblyFault, SourceFault};
-use agc_check::{
-    apply_patch, check_word, damaged_store, file_of_words, file_words, mark_bad_words, put_word,
-    words_in_banks,
-};
+use agc_check::mark_bad_words;
 use agc_dump::{Radix, words_of_text};
 use agc_io::{ROPE_BYTES, ReadError, TEXT_BYTES, read_limited};
 use agc_listing::WeaveFault;
 use agc_load::LoadFault;
-use agc_mend::with_banks;
+use agc_mend::{
+    apply_patch, check_word, damaged_store, file_of_words, file_words, put_word, with_banks,
+    words_in_banks,
+};
 use agc_store::place::{FIXED_BANK_SIZE, FIXED_BANKS, FIXED_WORDS};
 use agc_store::{RopeFault, RopeForm, Store};
 use agc_study_args::{ConvertArgs, ConvertedRope, ListArgs, PatchArgs, convert_rope, dump_text};

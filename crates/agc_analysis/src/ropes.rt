@@ -15,10 +15,10 @@ ghost use Rattle.agc_analysis.specs.declared.fault.AnalysisFault.TheVariants as 
 
 use crate::fault::AnalysisFault;
 use agc_asm::{AssemblyFault, Misnamed, assemble, first_misnamed, rope_source, yul_source};
-use agc_check::BadWord;
 use agc_io::{ReadError, TEXT_BYTES, read_limited};
 use agc_listing::{files_say_rope_words, list, push_order};
 use agc_load::LoadFault;
+use agc_mend::BadWord;
 use agc_store::{RopeForm, Store};
 use agc_study_args::{ListArgs, ListStyle, RopeRead, list_with_names, read_any_rope};
 use agc_trace::LineForm;

@@ -9,16 +9,16 @@ use Rattle.agc_store.specs.Memory.{fixed_at}
 use Rattle.agc_listing.specs.List.{starts_run, is_extracode_at}
 use Rattle.agc_listing.specs.Order.{next_is_extracode}
 use Rattle.agc_listing.proofs.RopeLines.{extracode_next}
-use Rattle.agc_asm.specs.LocationCounter.{after_cells, after_range, after_words, bank_end, in_bank, location_at, moved_to, resumed, room_at, stretch_end}
+use Rattle.agc_encode.specs.LocationCounter.{after_cells, after_range, after_words, bank_end, in_bank, location_at, moved_to, resumed, room_at, stretch_end}
 use Rattle.agc_asm.specs.OrderLines.{place_of}
-use Rattle.agc_asm.specs.declared.location_counter.At.{At}
-use Rattle.agc_asm.specs.declared.location_counter.At.TheVariants as at
-use Rattle.agc_asm.specs.declared.location_counter.LocationCounter.{LocationCounter}
-use Rattle.agc_asm.specs.declared.line_kind.LineKind.TheVariants as kind
-use Rattle.agc_asm.specs.declared.fault.SourceFault.TheVariants as fault
+use Rattle.agc_encode.specs.declared.location_counter.At.{At}
+use Rattle.agc_encode.specs.declared.location_counter.At.TheVariants as at
+use Rattle.agc_encode.specs.declared.location_counter.LocationCounter.{LocationCounter}
+use Rattle.agc_encode.specs.declared.line_kind.LineKind.TheVariants as kind
+use Rattle.agc_encode.specs.declared.source_fault.SourceFault.TheVariants as fault
 use Rattle.agc_listing.specs.declared.location.Location.{Location}
 use Rattle.agc_listing.specs.declared.location.Location.TheVariants as location
-use Rattle.agc_asm.proofs.Held.{GoesIntoRope}
+use Rattle.agc_encode.proofs.Held.{GoesIntoRope}
 use Rattle.agc_interpretive.specs.Pending.{nothing_due}
 use Rattle.agc_interpretive.specs.declared.pending.Pending.{Pending}
 

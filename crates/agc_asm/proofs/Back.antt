@@ -1,8 +1,8 @@
 -- The source of a rope names the words of the rope, and so assembles to it.
-use Rattle.agc_asm.specs.Body.{body_in, plain_line, has_non_ascii_comment, is_include, spelled}
-use Rattle.agc_asm.specs.Interpretive.{column_of, is_basic, role_by, role_of, spoken_words}
-use Rattle.agc_asm.specs.declared.role.Role.{Role}
-use Rattle.agc_asm.specs.declared.role.Role.TheVariants as role
+use Rattle.agc_encode.specs.Body.{body_in, plain_line, has_non_ascii_comment, is_include, spelled}
+use Rattle.agc_encode.specs.Interpretive.{column_of, is_basic, role_by, role_of, spoken_words}
+use Rattle.agc_encode.specs.declared.role.Role.{Role}
+use Rattle.agc_encode.specs.declared.role.Role.TheVariants as role
 use Rattle.agc_interpretive.specs.Pending.{fault_at_end, nothing_due, takes_line}
 use Rattle.agc_interpretive.specs.declared.pending.Pending.{Pending}
 use Rattle.std.specs.Prelude.{◌≡◌, ℕ, ◌+◌, ◌^◌, ◌<◌, ◌≤◌, Bool, true, false, List, [], ◌∷◌, ◌++◌, length, Option, Some, None, Result, Ok, Err, not, if◌then◌else◌}
@@ -14,9 +14,9 @@ use Rattle.std.proofs.lemmas.List.Elements.{All-get_or}
 use Rattle.agc_word.specs.Number.{Number}
 use Rattle.agc_store.specs.Memory.{fixed_at, nothing}
 use Rattle.agc_listing.specs.Laws.{AreRopeWords, words_below, words_listed}
-use Rattle.agc_asm.specs.LocationCounter.{first_counter}
-use Rattle.agc_asm.specs.Disassemble.{resolve_range, rope_source}
-use Rattle.agc_asm.specs.declared.location_counter.LocationCounter.{LocationCounter}
+use Rattle.agc_encode.specs.LocationCounter.{first_counter}
+use Rattle.agc_encode.specs.Disassemble.{resolve_range, rope_source}
+use Rattle.agc_encode.specs.declared.location_counter.LocationCounter.{LocationCounter}
 use Rattle.agc_asm.proofs.Lines.{Stands}
 use Rattle.agc_asm.proofs.Stretches.{StandsIn, due_none, finds_none, finds_words}
 use Rattle.agc_word.specs.Text.{lines_of}
@@ -27,8 +27,8 @@ use Rattle.agc_listing.specs.declared.fault.WeaveFault.TheVariants as weave
 use Rattle.agc_listing.proofs.Listings.{rope_of_words}
 use Rattle.agc_asm.specs.Laws.{WeavesTo}
 use Rattle.agc_listing.proofs.Woven.{next_parsed}
-use Rattle.agc_asm.specs.declared.fault.SourceFault.{SourceFault}
-use Rattle.agc_asm.specs.declared.fault.SourceFault.TheVariants as fault
+use Rattle.agc_encode.specs.declared.source_fault.SourceFault.{SourceFault}
+use Rattle.agc_encode.specs.declared.source_fault.SourceFault.TheVariants as fault
 use Rattle.agc_asm.specs.declared.fault.AssemblyFault.TheVariants as trouble
 use Rattle.agc_asm.proofs.Passes.{next_woven}
 use Rattle.agc_asm.specs.declared.pass2.Step.{Step}
@@ -36,7 +36,7 @@ use Rattle.agc_listing.specs.declared.fault.LineFault.{LineFault}
 use Rattle.agc_listing.specs.declared.line.PlacedWord.{PlacedWord}
 use Rattle.agc_asm.specs.Source.{as_source, two_added, first_names, first_state, is_listing, assemble_line, listed_woven, IsSourceWoven, names_in, source_in, words_from, words_in, due_from, is_listing_line}
 use Rattle.agc_asm.specs.declared.pass2.State.{State}
-use Rattle.agc_asm.specs.Name.{Naming}
+use Rattle.agc_encode.specs.Name.{Naming}
 use Rattle.agc_listing.specs.Text.{are_listed, parsed_by}
 
 -- A line of a listing is read as it is.
@@ -179,6 +179,5 @@ weaves_to words text is h form =
     (woven_file form (words_listed words), woven, rope_of_words form words h)
 
 -- the text of all places is the source
-pub whole_source : (bank : Option ℕ) (words : List Number) (start text : List ℕ) → bank ≡ None → start ≡ [] → text ≡ start ++ resolve_range 36864 bank words → text ≡ rope_source None words
-unfolding rope_source
+pub whole_source : (bank : Option ℕ) (words : List Number) (start text : List ℕ) → bank ≡ None → start ≡ [] → text ≡ start ++ rope_source bank words → text ≡ rope_source None words
 whole_source bank words start text all nothing is = rw (is, nothing, all) refl

@@ -1,20 +1,20 @@
 -- The fault that a pass over a source reports is the first in it.
-use Rattle.agc_asm.specs.Body.{line_label, plain_line}
+use Rattle.agc_encode.specs.Body.{line_label, plain_line}
 use Rattle.std.specs.Prelude.{◌≡◌, ℕ, suc, ◌+◌, ◌-◌, ◌<◌, true, false, List, [], ◌∷◌, length, take, Option, Some, None, option_map, Result, Ok, Err, IsOk, ◌⊎◌}
 use Rattle.std.proofs.Common.{refl, ap, sym, ◌∙◌, arith, inl, inr}
 use Rattle.agc_word.specs.Text.{lines_of}
 use Rattle.agc_listing.specs.Weave.{parsed_in}
 use Rattle.agc_listing.specs.declared.line.PlacedWord.{PlacedWord}
-use Rattle.agc_asm.specs.LocationCounter.{first_counter}
+use Rattle.agc_encode.specs.LocationCounter.{first_counter}
 use Rattle.agc_asm.specs.FirstFault.{IsAtEnd, IsFirstFault, IsFirstOn, Pass, names_pass, words_pass}
 use Rattle.agc_asm.specs.Source.{as_source, two_added, first_names, first_state, is_listing, define_label, assemble_line, names_from, names_in, naming_after, source_in, words_after_names, words_from, words_in, closed, due_from, ended}
-use Rattle.agc_asm.specs.declared.location_counter.LocationCounter.{LocationCounter}
+use Rattle.agc_encode.specs.declared.location_counter.LocationCounter.{LocationCounter}
 use Rattle.agc_asm.specs.declared.pass1.Labelled.{Labelled}
 use Rattle.agc_asm.specs.declared.pass2.State.{State}
 use Rattle.agc_asm.specs.declared.pass2.Step.{Step}
-use Rattle.agc_asm.specs.Name.{Naming, own_names}
-use Rattle.agc_asm.specs.declared.fault.SourceFault.{SourceFault}
-use Rattle.agc_asm.specs.declared.fault.SourceFault.TheVariants as fault
+use Rattle.agc_encode.specs.Name.{Naming, own_names}
+use Rattle.agc_encode.specs.declared.source_fault.SourceFault.{SourceFault}
+use Rattle.agc_encode.specs.declared.source_fault.SourceFault.TheVariants as fault
 use Rattle.agc_asm.specs.declared.fault.AssemblyFault.{AssemblyFault}
 use Rattle.agc_interpretive.specs.Pending.{fault_at_end}
 use Rattle.agc_interpretive.specs.declared.fault.Fault.{Fault}

@@ -1,26 +1,11 @@
-mod RowWords
-pub mod BasicRows
-pub mod ExtracodeRows
-mod Naming
-mod Nearest
-mod AliasWords
-mod Tokens
 mod Passes
 mod Back
-mod Cut
-mod Rows
 mod Stretches
 mod Lines
 mod Orders
-mod Places
-mod Within
-mod LabelWords
 mod ReportedNames
-mod OwnWords
 mod Stepped
 mod FileHolds
-mod Held
-mod Fits
 mod Along
 mod OrderShown
 mod OrdersShown
@@ -29,4 +14,3 @@ mod SourceOrders
 mod FaultsStay
 mod FirstFaults
 mod SameRope
-mod Complements

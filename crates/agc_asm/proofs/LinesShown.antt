@@ -8,35 +8,35 @@ use Rattle.agc_store.specs.Memory.{fixed_at}
 use Rattle.agc_listing.specs.Line.{line_named}
 use Rattle.agc_listing.specs.declared.fault.LineFault.{LineFault}
 use Rattle.agc_listing.specs.declared.line.PlacedWord.{PlacedWord}
-use Rattle.agc_asm.specs.Name.{Naming}
+use Rattle.agc_encode.specs.Name.{Naming}
 use Rattle.agc_listing.specs.Text.{after_first, are_listed, parsed_by}
 use Rattle.agc_listing.specs.Order.{next_is_extracode}
-use Rattle.agc_asm.specs.Body.{body_in, spelled, plain_line}
-use Rattle.agc_asm.specs.Operand.{location_in}
-use Rattle.agc_asm.specs.declared.encode.Banks.{Banks}
-use Rattle.agc_asm.specs.declared.fault.SourceFault.{SourceFault}
-use Rattle.agc_asm.specs.LocationCounter.{after_words, due_there, room_at, after_cells}
-use Rattle.agc_asm.specs.Encode.{cell_in, encode_pair, place_in, encode_word, writes_order}
+use Rattle.agc_encode.specs.Body.{body_in, spelled, plain_line}
+use Rattle.agc_encode.specs.Operand.{location_in}
+use Rattle.agc_encode.specs.declared.encode.Banks.{Banks}
+use Rattle.agc_encode.specs.declared.source_fault.SourceFault.{SourceFault}
+use Rattle.agc_encode.specs.LocationCounter.{after_words, due_there, room_at, after_cells}
+use Rattle.agc_encode.specs.Encode.{cell_in, encode_pair, place_in, encode_word, writes_order}
 use Rattle.agc_asm.specs.OrderLines.{OrderLine, mnemonic_in, mnemonic_of, order_of, order_placed, order_words, orders_from, since_after, mnemonic_at, mnemonics_from, basic_stays, is_interpretive, is_other}
-use Rattle.agc_asm.specs.LineKind.{counter_after, kind_of}
-use Rattle.agc_asm.specs.Interpretive.{due_behind, role_of, spoken_meaning, spoken_words}
-use Rattle.agc_asm.specs.declared.role.Role.{Role}
-use Rattle.agc_asm.specs.declared.role.Role.TheVariants as role
+use Rattle.agc_encode.specs.LineKind.{counter_after, kind_of}
+use Rattle.agc_encode.specs.Interpretive.{due_behind, role_of, spoken_meaning, spoken_words}
+use Rattle.agc_encode.specs.declared.role.Role.{Role}
+use Rattle.agc_encode.specs.declared.role.Role.TheVariants as role
 use Rattle.agc_interpretive.specs.declared.fault.Fault.{Fault}
 use Rattle.agc_interpretive.specs.declared.pending.Pending.{Pending}
 use Rattle.agc_asm.specs.Source.{fault_before, spoken_at, spoken_in_cell, spoken_in_rope, spoken_next, spoken_placed, unless_missing, woven_as, ebank_parsed, assemble_line, listed_woven, no_word, one_word, pair_placed, sbank_parsed, shape_woven, stays_put, two_words, with_banks, word_placed, words_from, in_cells, word_at_counter, pair_at_counter, word_in_cell, pair_in_cells}
-use Rattle.agc_asm.specs.declared.location_counter.At.{At as Where}
-use Rattle.agc_asm.specs.declared.location_counter.At.TheVariants as at
-use Rattle.agc_asm.specs.declared.location_counter.LocationCounter.{LocationCounter}
-use Rattle.agc_asm.specs.declared.encode.Pair.{Pair}
-use Rattle.agc_asm.specs.declared.line_kind.LineKind.{LineKind}
-use Rattle.agc_asm.specs.declared.line_kind.LineKind.TheVariants as kind
+use Rattle.agc_encode.specs.declared.location_counter.At.{At as Where}
+use Rattle.agc_encode.specs.declared.location_counter.At.TheVariants as at
+use Rattle.agc_encode.specs.declared.location_counter.LocationCounter.{LocationCounter}
+use Rattle.agc_encode.specs.declared.encode.Pair.{Pair}
+use Rattle.agc_encode.specs.declared.line_kind.LineKind.{LineKind}
+use Rattle.agc_encode.specs.declared.line_kind.LineKind.TheVariants as kind
 use Rattle.agc_asm.specs.declared.pass2.State.{State}
 use Rattle.agc_asm.specs.declared.pass2.Step.{Step}
 use Rattle.agc_asm.proofs.Along.{Sound, after_bank, after_cell_line, after_data, after_move, after_name_line, after_one, after_range_line, after_resumed, place_inside, read_here, after_cells_any}
 use Rattle.agc_asm.proofs.FileHolds.{HasWord}
-use Rattle.agc_asm.proofs.Fits.{word_fits}
-use Rattle.agc_asm.proofs.Held.{GoesIntoRope, goes_into_rope}
+use Rattle.agc_encode.proofs.Fits.{word_fits}
+use Rattle.agc_encode.proofs.Held.{GoesIntoRope, goes_into_rope}
 use Rattle.agc_asm.proofs.Stepped.{all_before, both, holds, stepped}
 use Rattle.agc_asm.proofs.OrdersShown.{AreShown, At, IsNoWord, no_order, none_shown, word_shown}
 use Rattle.agc_asm.proofs.OrderShown.{Shown}

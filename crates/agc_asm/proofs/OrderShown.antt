@@ -13,13 +13,13 @@ use Rattle.agc_store.specs.Memory.{fixed_at}
 use Rattle.agc_listing.specs.List.{is_extracode_at, line_text, listed_line}
 use Rattle.agc_listing.specs.Order.{basic_text, extracode_text, operand_in, operand_text, order_text}
 use Rattle.agc_listing.specs.declared.order.Operand.{Operand}
-use Rattle.agc_asm.specs.Mnemonic.{basic_named, extracode_named}
-use Rattle.agc_asm.specs.Row.{basic_word, extracode_word}
+use Rattle.agc_encode.specs.Mnemonic.{basic_named, extracode_named}
+use Rattle.agc_encode.specs.Row.{basic_word, extracode_word}
 use Rattle.agc_asm.specs.OrderLines.{HasOrder, IsListed, IsReadAlong, Names, OrderLine, row_of}
-use Rattle.agc_asm.proofs.BasicRows.{names_it as basic_names, shows_it as basic_shows}
-use Rattle.agc_asm.proofs.ExtracodeRows.{names_it as extracode_names, shows_it as extracode_shows}
-use Rattle.agc_asm.proofs.OwnWords.{basic_fits, extracode_fits}
-use Rattle.agc_asm.proofs.Rows.{basic_by_name, extracode_by_name, own_basic, own_extracode}
+use Rattle.agc_encode.proofs.BasicRows.{names_it as basic_names, shows_it as basic_shows}
+use Rattle.agc_encode.proofs.ExtracodeRows.{names_it as extracode_names, shows_it as extracode_shows}
+use Rattle.agc_encode.proofs.OwnWords.{basic_fits, extracode_fits}
+use Rattle.agc_encode.proofs.Rows.{basic_by_name, extracode_by_name, own_basic, own_extracode}
 
 -- an order by its mnemonic has this mnemonic
 found_by : {X : Type 0} (test : X → Bool) (x found : X) (xs : List X) (passes : Bool) → test x ≡ passes → ((other : X) → find test xs ≡ Some other → test other ≡ true)

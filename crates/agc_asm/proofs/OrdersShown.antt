@@ -1,5 +1,5 @@
 -- The order that a line writes, when the word of the line is at its place.
-use Rattle.agc_asm.specs.UnknownOperation.{unknown_operation}
+use Rattle.agc_encode.specs.UnknownOperation.{unknown_operation}
 use Rattle.std.specs.Prelude.{◌≡◌, ℕ, Bool, true, false, not, ◌&&◌, All, List, [], ◌∷◌, map, Option, Some, None, is_none, option_map, Result, Ok, Err, if◌then◌else◌}
 use Rattle.std.proofs.Common.{refl}
 use Rattle.std.proofs.lemmas.List.Elements.{All-cons, All-nil}
@@ -10,20 +10,20 @@ use Rattle.agc_order.specs.declared.order.Extracode.{Extracode}
 use Rattle.agc_store.specs.Memory.{fixed_at}
 use Rattle.agc_listing.specs.List.{is_extracode_at}
 use Rattle.agc_listing.specs.declared.order.Operand.{Operand}
-use Rattle.agc_asm.specs.Mnemonic.{basic_named, directive_named, extracode_named, is_order}
-use Rattle.agc_asm.specs.Name.{Naming}
-use Rattle.agc_asm.specs.Row.{as_word, basic_word, extracode_word, meant, meant_operand}
-use Rattle.agc_asm.specs.declared.fault.SourceFault.{SourceFault}
-use Rattle.agc_asm.specs.declared.mnemonic.Directive.{Directive}
-use Rattle.agc_asm.specs.Body.{alias_in, has_minus, spelled}
-use Rattle.agc_asm.specs.Encode.{basic_with, complemented_word, extracode_with, if_basic, if_extracode, is_order_by, is_order_spelled, offset_below_zero, operand_fault, order_by_offset, encode_order, plain_meaning, unless_fault, word_by, encode_word, writes_order}
-use Rattle.agc_asm.specs.declared.alias.Alias.{Alias}
-use Rattle.agc_asm.specs.declared.encode.Banks.{Banks}
-use Rattle.agc_asm.specs.Operand.{operand_for, value_of}
+use Rattle.agc_encode.specs.Mnemonic.{basic_named, directive_named, extracode_named, is_order}
+use Rattle.agc_encode.specs.Name.{Naming}
+use Rattle.agc_encode.specs.Row.{as_word, basic_word, extracode_word, meant, meant_operand}
+use Rattle.agc_encode.specs.declared.source_fault.SourceFault.{SourceFault}
+use Rattle.agc_encode.specs.declared.mnemonic.Directive.{Directive}
+use Rattle.agc_encode.specs.Body.{alias_in, has_minus, spelled}
+use Rattle.agc_encode.specs.Encode.{basic_with, complemented_word, extracode_with, if_basic, if_extracode, is_order_by, is_order_spelled, offset_below_zero, operand_fault, order_by_offset, encode_order, plain_meaning, unless_fault, word_by, encode_word, writes_order}
+use Rattle.agc_encode.specs.declared.alias.Alias.{Alias}
+use Rattle.agc_encode.specs.declared.encode.Banks.{Banks}
+use Rattle.agc_encode.specs.Operand.{operand_for, value_of}
 use Rattle.agc_asm.specs.OrderLines.{OrderLine, mnemonic_in, operand_read, order_at, order_placed, order_with, order_words, row_named}
-use Rattle.agc_asm.specs.LineKind.{kind_by, kind_of}
-use Rattle.agc_asm.specs.declared.line_kind.LineKind.{LineKind}
-use Rattle.agc_asm.specs.declared.line_kind.LineKind.TheVariants as kind
+use Rattle.agc_encode.specs.LineKind.{kind_by, kind_of}
+use Rattle.agc_encode.specs.declared.line_kind.LineKind.{LineKind}
+use Rattle.agc_encode.specs.declared.line_kind.LineKind.TheVariants as kind
 use Rattle.agc_asm.proofs.OrderShown.{Shown, basic_shown, extracode_shown}
 
 -- the orders of a line, and their mnemonics

@@ -11,26 +11,26 @@ use Rattle.agc_word.specs.Text.{lines_of}
 use Rattle.agc_symbols.specs.Symbols.{Symbol, names_in}
 use Rattle.agc_symbols.specs.Writing.{AreSayable, line_for, names_text}
 use Rattle.agc_symbols.proofs.NamesRead.{names_read}
-use Rattle.agc_asm.specs.LocationCounter.{due_there, first_counter}
+use Rattle.agc_encode.specs.LocationCounter.{due_there, first_counter}
 use Rattle.agc_asm.specs.NameLines.{label_named, labels_from, labels_in, name_lines_in}
-use Rattle.agc_asm.specs.LineKind.{counter_after, kind_of}
+use Rattle.agc_encode.specs.LineKind.{counter_after, kind_of}
 use Rattle.agc_asm.specs.Source.{first_names, labelled, define_label, listed_labelled, naming_after, place_of_name, shape_labelled, labelled_as, with_due}
-use Rattle.agc_asm.specs.declared.location_counter.LocationCounter.{LocationCounter}
+use Rattle.agc_encode.specs.declared.location_counter.LocationCounter.{LocationCounter}
 use Rattle.agc_asm.specs.declared.pass1.Labelled.{Labelled}
-use Rattle.agc_asm.specs.declared.line_kind.LineKind.{LineKind}
+use Rattle.agc_encode.specs.declared.line_kind.LineKind.{LineKind}
 use Rattle.agc_listing.specs.Location.{IsWithin}
-use Rattle.agc_asm.specs.Body.{line_label, body_in, spelled, plain_line, is_include}
-use Rattle.agc_asm.specs.Interpretive.{due_behind, role_of, spoken_words}
-use Rattle.agc_asm.specs.declared.line_kind.LineKind.TheVariants as kind
-use Rattle.agc_asm.specs.declared.role.Role.{Role}
-use Rattle.agc_asm.specs.declared.role.Role.TheVariants as role
+use Rattle.agc_encode.specs.Body.{line_label, body_in, spelled, plain_line, is_include}
+use Rattle.agc_encode.specs.Interpretive.{due_behind, role_of, spoken_words}
+use Rattle.agc_encode.specs.declared.line_kind.LineKind.TheVariants as kind
+use Rattle.agc_encode.specs.declared.role.Role.{Role}
+use Rattle.agc_encode.specs.declared.role.Role.TheVariants as role
 use Rattle.agc_interpretive.specs.declared.pending.Pending.{Pending}
-use Rattle.agc_asm.specs.Name.{Naming}
+use Rattle.agc_encode.specs.Name.{Naming}
 use Rattle.agc_listing.specs.Text.{are_listed, is_name, parsed_by}
-use Rattle.agc_asm.specs.declared.fault.SourceFault.{SourceFault}
-use Rattle.agc_asm.specs.declared.fault.SourceFault.TheVariants as fault
+use Rattle.agc_encode.specs.declared.source_fault.SourceFault.{SourceFault}
+use Rattle.agc_encode.specs.declared.source_fault.SourceFault.TheVariants as fault
 use Rattle.agc_listing.specs.declared.location.Location.{Location}
-use Rattle.agc_asm.proofs.LabelWords.{label_is_word}
+use Rattle.agc_encode.proofs.LabelWords.{label_is_word}
 
 -- The name of a line that has a location is a name, and the line is text.
 

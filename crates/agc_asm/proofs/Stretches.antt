@@ -16,14 +16,14 @@ use Rattle.agc_listing.specs.declared.line.PlacedWord.{PlacedWord}
 use Rattle.agc_listing.proofs.LinesBack.{NoneFrom}
 use Rattle.agc_interpretive.specs.Pending.{nothing_due}
 use Rattle.agc_asm.specs.Source.{due_from, names_from, words_from}
-use Rattle.agc_asm.specs.LocationCounter.{after_words, moved_to}
-use Rattle.agc_asm.specs.Disassemble.{follows_word, is_wanted_at, line_of, line_to, placed_word_lines, resolve, shows_order}
+use Rattle.agc_encode.specs.LocationCounter.{after_words, moved_to}
+use Rattle.agc_encode.specs.Disassemble.{follows_word, is_wanted_at, line_of, line_to, placed_word_lines, resolve, shows_order}
 use Rattle.agc_listing.specs.Text.{parsed_by}
-use Rattle.agc_asm.specs.declared.location_counter.LocationCounter.{LocationCounter}
+use Rattle.agc_encode.specs.declared.location_counter.LocationCounter.{LocationCounter}
 use Rattle.agc_asm.specs.declared.pass2.State.{State}
-use Rattle.agc_asm.specs.Name.{Naming}
+use Rattle.agc_encode.specs.Name.{Naming}
 use Rattle.agc_listing.specs.declared.location.Location.TheVariants as location
-use Rattle.agc_asm.proofs.Cut.{lines_more, no_lines}
+use Rattle.agc_encode.proofs.Cut.{lines_more, no_lines}
 use Rattle.agc_asm.proofs.Lines.{IsHere, IsLine, Stands, after_word, due_move, due_word, is_line, moved_banks, moved_here, names_move, names_word, skips, state_after, state_moved, words_move, words_word}
 use Rattle.agc_asm.proofs.Orders.{place_line, place_line_moves, place_line_plain, place_line_prints, place_line_unlisted, word_line, word_line_prints, word_line_says, word_line_unlisted}
 

@@ -1,6 +1,6 @@
 -- The orders that the lines of a source write, and how the assembled rope and its listing show them.
 use Rattle.agc_order.specs.declared.order.Basic.{Basic}
-use Rattle.agc_asm.specs.Row.{meant, meant_operand}
+use Rattle.agc_encode.specs.Row.{meant, meant_operand}
 use Rattle.agc_interpretive.specs.declared.pending.Pending.{Pending}
 use Rattle.std.specs.Prelude.{◌≡◌, ℕ, ◌^◌, ◌<◌, Bool, true, false, ◌||◌, List, [], ◌∷◌, ◌++◌, codes}
 use Rattle.std.specs.Prelude.{Option, Some, None, option_map, Result, Ok, Err, if◌then◌else◌}
@@ -16,28 +16,28 @@ use Rattle.agc_listing.specs.List.{is_extracode_at, listed_line, listed_place}
 use Rattle.agc_listing.specs.Order.{operand_in, operand_text}
 use Rattle.agc_listing.specs.Place.{place_text}
 use Rattle.agc_listing.specs.declared.order.Operand.{Operand}
-use Rattle.agc_asm.specs.Mnemonic.{basic_named, extracode_named}
-use Rattle.agc_asm.specs.Name.{Naming}
+use Rattle.agc_encode.specs.Mnemonic.{basic_named, extracode_named}
+use Rattle.agc_encode.specs.Name.{Naming}
 use Rattle.agc_listing.specs.Text.{are_listed, parsed_by}
-use Rattle.agc_asm.specs.Body.{body_in, plain_line, spelled}
-use Rattle.agc_asm.specs.Encode.{writes_order}
-use Rattle.agc_asm.specs.Interpretive.{role_of}
-use Rattle.agc_asm.specs.declared.role.Role.{Role}
-use Rattle.agc_asm.specs.declared.role.Role.TheVariants as role
-use Rattle.agc_asm.specs.declared.fault.SourceFault.{SourceFault}
-use Rattle.agc_asm.specs.declared.fault.SourceFault.TheVariants as fault
+use Rattle.agc_encode.specs.Body.{body_in, plain_line, spelled}
+use Rattle.agc_encode.specs.Encode.{writes_order}
+use Rattle.agc_encode.specs.Interpretive.{role_of}
+use Rattle.agc_encode.specs.declared.role.Role.{Role}
+use Rattle.agc_encode.specs.declared.role.Role.TheVariants as role
+use Rattle.agc_encode.specs.declared.source_fault.SourceFault.{SourceFault}
+use Rattle.agc_encode.specs.declared.source_fault.SourceFault.TheVariants as fault
 use Rattle.agc_asm.specs.declared.fault.AssemblyFault.{AssemblyFault}
 use Rattle.agc_listing.specs.declared.location.Location.{Location}
 use Rattle.agc_listing.specs.declared.location.Location.TheVariants as location
-use Rattle.agc_asm.specs.LocationCounter.{location_at, room_at}
-use Rattle.agc_asm.specs.Operand.{operand_for}
-use Rattle.agc_asm.specs.LineKind.{kind_of}
+use Rattle.agc_encode.specs.LocationCounter.{location_at, room_at}
+use Rattle.agc_encode.specs.Operand.{operand_for}
+use Rattle.agc_encode.specs.LineKind.{kind_of}
 use Rattle.agc_asm.specs.Source.{first_state, assemble_line, names_in, stays_put}
-use Rattle.agc_asm.specs.declared.location_counter.At.{At}
-use Rattle.agc_asm.specs.declared.location_counter.At.TheVariants as at
-use Rattle.agc_asm.specs.declared.location_counter.LocationCounter.{LocationCounter}
-use Rattle.agc_asm.specs.declared.line_kind.LineKind.{LineKind}
-use Rattle.agc_asm.specs.declared.line_kind.LineKind.TheVariants as kind
+use Rattle.agc_encode.specs.declared.location_counter.At.{At}
+use Rattle.agc_encode.specs.declared.location_counter.At.TheVariants as at
+use Rattle.agc_encode.specs.declared.location_counter.LocationCounter.{LocationCounter}
+use Rattle.agc_encode.specs.declared.line_kind.LineKind.{LineKind}
+use Rattle.agc_encode.specs.declared.line_kind.LineKind.TheVariants as kind
 use Rattle.agc_asm.specs.declared.pass2.State.{State}
 
 -- An order that a line writes: its place, the mnemonic as the line has it, but the order's own one if the line has

@@ -6,12 +6,11 @@ ghost use Rattle.agc_asm.specs.Source.{IsSourceWoven, is_listing, names_in, sour
 ghost use Rattle.agc_asm.specs.FaultText.{later_fault};
 ghost use Rattle.agc_asm.specs.declared.fault.AssemblyFault.TheVariants.{Line, Memory};
 
-use crate::body::has_non_ascii_comment;
-use crate::fault::{AssemblyFault, SourceFault};
+use crate::fault::AssemblyFault;
 use crate::pass1::read_names;
 use crate::pass2::read_words;
-use crate::source_line::parse_lines;
 use crate::source_lines::overlapped_line;
+use agc_encode::{SourceFault, has_non_ascii_comment, parse_lines};
 use agc_listing::{LineFault, RopeBuilder, WeaveFault, file_of, is_listed, weave};
 use agc_store::RopeForm;
 use agc_word::next_line;

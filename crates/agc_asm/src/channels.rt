@@ -1,14 +1,11 @@
 //! Collects the names that the orders of a source take as channels.
 ghost use Rattle.std.specs.Prelude.{◌≡◌, IfOk, map, option_map};
-ghost use Rattle.agc_asm.specs.Body.{plain_line};
+ghost use Rattle.agc_encode.specs.Body.{plain_line};
 ghost use Rattle.agc_asm.specs.Channels.{channels_from, is_both, line_channel, takes_channel_by};
-ghost use Rattle.agc_asm.specs.Mnemonic.{extracode_named};
-ghost use Rattle.agc_asm.specs.Name.{naming_of};
+ghost use Rattle.agc_encode.specs.Mnemonic.{extracode_named};
+ghost use Rattle.agc_encode.specs.Name.{naming_of};
 
-use crate::body::next_token;
-use crate::mnemonic::extracode_named;
-use crate::names::Names;
-use crate::source_line::SourceLine;
+use agc_encode::{Names, SourceLine, extracode_named, next_token};
 use agc_listing::is_name;
 use agc_order::Takes;
 use std::alloc::AllocError;
@@ -36,7 +33,7 @@ pub(crate) fn note_channels<'a>(
 }
 
 /// Returns the name that a line's order takes as a channel's.
-#[tactic(auto, unfolding(crate::specs::Channels::line_channel, crate::specs::Body::spelled))]
+#[tactic(auto, unfolding(crate::specs::Channels::line_channel, agc_encode::specs::Body::spelled))]
 fn line_channel<'a>(line: &SourceLine<'a>) -> Option<&'a [u8]>
     ensures { option_map (λ name. name.now) result ≡ line_channel (plain_line line.now.text.now) }
 {

@@ -1,5 +1,5 @@
 //! Remarks on the erasable cells of a source that lie over registers or over other cells.
-use crate::mnemonic::Directive;
+use agc_encode::Directive;
 use agc_listing::{
     Cell, Location, cut_label, is_listed, location_named, next_parsed, offset_parsed, only_word,
     push_place,

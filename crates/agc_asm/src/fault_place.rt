@@ -2,10 +2,7 @@
 ghost use Rattle.std.specs.Prelude.{◌≡◌, ◌+◌, ◌≤◌, length, take, drop, IfSome};
 ghost use Rattle.agc_asm.specs.FaultPlace.{IsWordOf};
 
-use crate::body::{is_operation, without_minus};
-use crate::fault::SourceFault;
-use crate::mnemonic::Directive;
-use crate::numeral::{is_numeral, is_scale};
+use agc_encode::{Directive, SourceFault, is_numeral, is_operation, is_scale, without_minus};
 use agc_interpretive::{Fault, Operation};
 use agc_listing::{LineFault, has_other_byte, is_listed, offset_parsed};
 

@@ -1,15 +1,13 @@
 //! Finds all faulty lines of a source, not only the first.
-ghost use Rattle.agc_asm.specs.LocationCounter.{IsAt};
+ghost use Rattle.agc_encode.specs.LocationCounter.{IsAt};
 
-use crate::fault::SourceFault;
 use crate::fault_place::word_at_fault;
-use crate::line_kind::{LineKind, counter_after, kind_of};
-use crate::location_counter::LocationCounter;
-use crate::names::Names;
 use crate::pass1::{define_label, first_names, note_label};
 use crate::pass2::{State, assemble_line};
-use crate::role::{Role, due_behind, role_of};
-use crate::source_line::{SourceLine, parse_lines};
+use agc_encode::{
+    LineKind, LocationCounter, Names, Role, SourceFault, SourceLine, counter_after, due_behind,
+    kind_of, parse_lines, role_of,
+};
 use agc_listing::is_no_text;
 use std::alloc::{AllocError, Global};
 use std::collections::BTreeMap;

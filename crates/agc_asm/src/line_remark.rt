@@ -1,7 +1,5 @@
 //! Remarks on lines of a source that skip an order.
-use crate::alias::Alias;
-use crate::body::{code_of, cut_line, next_token};
-use crate::mnemonic::{Directive, is_order};
+use agc_encode::{Alias, Directive, code_of, cut_line, is_order, next_token};
 use agc_listing::{is_listed, push_file_bytes};
 use agc_word::without_return;
 use std::alloc::{AllocError, Global};

@@ -1,7 +1,5 @@
 //! Finds the lines of a typed listing that are in doubt: their text is not their word's, or lines before them are missing.
-use crate::alias::Alias;
-use crate::body::code_of;
-use crate::mnemonic::{basic_named, extracode_named};
+use agc_encode::{Alias, basic_named, code_of, extracode_named};
 use agc_listing::{
     Operand, PlacedWord, offset_parsed, operand_in, push_file_bytes, push_order, push_rope_place,
     read_line, words_of,

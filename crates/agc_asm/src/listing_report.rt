@@ -4,13 +4,13 @@ ghost use Rattle.agc_asm.specs.Source.{source_in};
 ghost use Rattle.agc_asm.specs.ListingReport.{IsListingReport, listing_fault_text};
 
 use crate::assemble_source::assemble;
-use crate::body::code_of;
-use crate::fault::{AssemblyFault, SourceFault};
+use crate::fault::AssemblyFault;
 use crate::fault_place::word_at_fault;
 use crate::faulty::counted_faults;
 use crate::listing_doubt::doubts;
 use crate::source_lines::overlapped_line;
 use crate::source_remark::{push_letter_below, push_source_why};
+use agc_encode::{SourceFault, code_of};
 use agc_listing::{LineFault, Report, push_file_line, push_quoted, push_quoted_then, words_of};
 use agc_store::RopeForm;
 use agc_word::without_return;

@@ -6,10 +6,10 @@ ghost use Rattle.agc_listing.specs.Weave.{ArePlaces, woven_file};
 ghost use Rattle.agc_asm.specs.Laws.{WeavesTo};
 ghost use Rattle.agc_store.specs.Places.{fixed_words};
 
-use crate::alias::Alias;
 use crate::assemble_source::{is_listing, source_words};
-use crate::disassemble::{Read, read_next, rope_source};
+use crate::disassemble::rope_source;
 use crate::fault::AssemblyFault;
+use agc_encode::{Alias, Read, read_next};
 use agc_listing::{
     Location, Operand, PlacedWord, file_of, is_in_selected_bank, listed_address, operand_in,
 };

@@ -13,7 +13,7 @@ ghost use Rattle.agc_asm.specs.MnemonicCheck.{
   third_of,
 };
 
-use crate::mnemonic::{basic_named, extracode_named};
+use agc_encode::{basic_named, extracode_named};
 use agc_listing::read_line;
 use agc_order::{Basic, Extracode};
 use agc_word::{Narrow, next_line, next_word};

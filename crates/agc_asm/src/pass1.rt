@@ -1,11 +1,11 @@
 //! The first pass over a source: collects its names.
 ghost use Rattle.std.specs.Prelude.{◌≡◌, ◌≢◌, ◌<◌, None, Ok, Err, IfOk, IfErr, IfSome, IsOk, OnOk, map, option_map};
-ghost use Rattle.agc_asm.specs.Body.{line_label, plain_line};
-ghost use Rattle.agc_asm.specs.LocationCounter.{IsAt, first_counter};
+ghost use Rattle.agc_encode.specs.Body.{line_label, plain_line};
+ghost use Rattle.agc_encode.specs.LocationCounter.{IsAt, first_counter};
 ghost use Rattle.agc_asm.specs.FaultText.{later_fault};
-ghost use Rattle.agc_asm.specs.Name.{given_of, guessing, naming_of};
-ghost use Rattle.agc_asm.specs.Interpretive.{spoken_words};
-ghost use Rattle.agc_asm.specs.LineKind.{IsKind, counter_after, kind_of};
+ghost use Rattle.agc_encode.specs.Name.{given_of, guessing, naming_of};
+ghost use Rattle.agc_encode.specs.Interpretive.{spoken_words};
+ghost use Rattle.agc_encode.specs.LineKind.{IsKind, counter_after, kind_of};
 ghost use Rattle.agc_asm.specs.Source.{
   first_names,
   found_after,
@@ -28,15 +28,12 @@ ghost use Rattle.agc_listing.specs.Text.{parsed_by};
 ghost use Rattle.agc_listing.specs.Line.{line_named};
 ghost use Rattle.agc_asm.specs.declared.fault.AssemblyFault.TheVariants.{Memory};
 
-use crate::body::is_include;
 use crate::channels::note_channels;
-use crate::fault::{AssemblyFault, SourceFault};
-use crate::line_kind::{LineKind, counter_after, kind_of};
-use crate::location_counter::{At, LocationCounter};
-use crate::names::Names;
-use crate::operand::{location_apart, location_beside};
-use crate::role::{Role, due_behind, role_of};
-use crate::source_line::SourceLine;
+use crate::fault::AssemblyFault;
+use agc_encode::{
+    At, LineKind, LocationCounter, Names, Role, SourceFault, SourceLine, counter_after, due_behind,
+    is_include, kind_of, location_apart, location_beside, role_of,
+};
 use agc_interpretive::Pending;
 use agc_listing::{LineFault, Location, has_other_byte, is_name, read_line};
 use agc_store::place::ERASABLE_CELLS;
@@ -191,7 +188,7 @@ fn spoken_labelled(
 }
 
 /// Reads a line of the basic language or of a listing.
-#[tactic(auto, unfolding(crate::specs::Body::spelled))]
+#[tactic(auto, unfolding(agc_encode::specs::Body::spelled))]
 fn basic_labelled(
     names: &Names,
     counter: LocationCounter,
@@ -295,7 +292,7 @@ fn is_same(one: Location, other: Location) -> bool
 }
 
 /// Returns the location of a name on a line of a kind.
-#[tactic(auto, using(crate::proofs::Within::room_within, crate::proofs::Within::cells_within))]
+#[tactic(auto, using(agc_encode::proofs::Within::room_within, agc_encode::proofs::Within::cells_within))]
 fn label_place(counter: LocationCounter, kind: LineKind) -> Result<Option<Location>, SourceFault>
     requires at { IsAt counter.at }
     requires kind { IsKind kind }

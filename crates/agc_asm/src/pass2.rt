@@ -2,8 +2,8 @@
 ghost use Rattle.std.specs.Prelude.{◌≡◌, ◌≢◌, ◌<◌, Ok, Err, IfOk, IfErr, IfSome, OnOk, map};
 ghost use Rattle.agc_store.specs.Places.{fixed_words, fixed_fixed};
 ghost use Rattle.agc_asm.specs.FaultText.{later_fault};
-ghost use Rattle.agc_asm.specs.Name.{naming_of};
-ghost use Rattle.agc_asm.specs.LineKind.{IsKind, kind_of};
+ghost use Rattle.agc_encode.specs.Name.{naming_of};
+ghost use Rattle.agc_encode.specs.LineKind.{IsKind, kind_of};
 ghost use Rattle.agc_asm.specs.Source.{
   IsPlaced,
   IsState,
@@ -35,31 +35,24 @@ ghost use Rattle.agc_asm.specs.Source.{
   spoken_state,
   writes_words,
 };
-ghost use Rattle.agc_asm.specs.LineKind.{counter_after};
-ghost use Rattle.agc_asm.specs.LocationCounter.{room_at, IsAt, after_cells};
-ghost use Rattle.agc_asm.specs.Body.{plain_line, spelled, tokens};
-ghost use Rattle.agc_asm.specs.Interpretive.{due_behind};
-ghost use Rattle.agc_asm.specs.Encode.{cell_in, place_in};
-ghost use Rattle.agc_asm.specs.Operand.{location_in};
+ghost use Rattle.agc_encode.specs.LineKind.{counter_after};
+ghost use Rattle.agc_encode.specs.LocationCounter.{room_at, IsAt, after_cells};
+ghost use Rattle.agc_encode.specs.Body.{plain_line, spelled, tokens};
+ghost use Rattle.agc_encode.specs.Interpretive.{due_behind};
+ghost use Rattle.agc_encode.specs.Encode.{cell_in, place_in};
+ghost use Rattle.agc_encode.specs.Operand.{location_in};
 ghost use Rattle.agc_listing.specs.Text.{parsed_by};
 ghost use Rattle.agc_listing.specs.Line.{line_named};
 ghost use Rattle.agc_asm.specs.declared.fault.AssemblyFault.TheVariants.{Memory};
 
-use crate::encode::{
-    Banks, Site, banks_after, cell_in, encode_pair, encode_word, is_banked, place_in, superbank,
-    writes_order,
+use crate::fault::AssemblyFault;
+use agc_encode::{
+    At, Banks, LineKind, LocationCounter, Names, Operation, Role, Site, SourceFault, SourceLine,
+    banks_after, cell_in, counter_after, due_behind, encode_pair, encode_word, is_banked, kind_of,
+    leads_after, location_in, place_in, role_of, spoken_meaning, superbank,
 };
-use crate::fault::{AssemblyFault, SourceFault};
-use crate::interpretive_word::spoken_meaning;
-use crate::line_kind::{LineKind, counter_after, kind_of};
-use crate::location_counter::{At, LocationCounter};
-use crate::names::Names;
-use crate::operand::location_in;
-use crate::operation::Operation;
-use crate::role::{Role, due_behind, role_of};
-use crate::source_line::SourceLine;
 use agc_interpretive::{Fault, Pending};
-use agc_listing::{PlacedWord, RopeBuilder, next_is_extracode, read_line};
+use agc_listing::{PlacedWord, RopeBuilder, read_line};
 use agc_store::place::{ERASABLE_BANK_SIZE, FIXED_FIXED};
 use agc_word::Narrow;
 use std::alloc::Global;
@@ -163,7 +156,7 @@ fn add_word(
 }
 
 /// Assembles a line: its words with their places, and where the next line goes.
-#[tactic(auto, unfolding(crate::specs::Source::assemble_line, crate::specs::Body::spelled))]
+#[tactic(auto, unfolding(crate::specs::Source::assemble_line, agc_encode::specs::Body::spelled))]
 pub(crate) fn assemble_line(
     names: &Names,
     state: State,
@@ -251,7 +244,7 @@ fn spoken_state(state: State, role: Role, words: &[u8], counter: LocationCounter
 }
 
 /// Assembles a line of the basic language.
-#[tactic(auto, unfolding(crate::specs::Body::spelled))]
+#[tactic(auto, unfolding(agc_encode::specs::Body::spelled))]
 fn basic_woven(names: &Names, state: State, operation: &Operation) -> Result<Step, SourceFault>
     requires { IsState state }
     ensures woven { result ≡ basic_woven (naming_of names.now) state (tokens operation.now.body.now)
@@ -303,7 +296,7 @@ fn leaves_due(kind: LineKind) -> bool
 }
 
 /// Assembles a line of a kind.
-#[tactic(auto, unfolding(crate::specs::Body::spelled))]
+#[tactic(auto, unfolding(agc_encode::specs::Body::spelled))]
 fn shape_woven(
     names: &Names,
     state: State,
@@ -404,7 +397,7 @@ fn word_at_counter(names: &Names, state: State, operation: &Operation) -> Result
         At::Bank(_) => word_placed(names, state, operation),
         At::Cell(_) => {
             let word = encode_word(names, site_in_cells(state), operation)?;
-            let leads = writes_order(operation) && next_is_extracode(state.leads, word);
+            let leads = leads_after(operation, state.leads, word);
             in_cells(state, operation, leads, state.counter.after_cells(1))
         }
     }
@@ -481,7 +474,7 @@ fn word_placed(names: &Names, state: State, operation: &Operation) -> Result<Ste
     Ok(Step {
         state: State {
             counter: state.counter.after_words(1),
-            leads: writes_order(operation) && next_is_extracode(state.leads, word),
+            leads: leads_after(operation, state.leads, word),
             banks: banks_after(is_banked(operation), state.banks),
         },
         first: Some(PlacedWord {

@@ -5,7 +5,7 @@ ghost use Rattle.agc_store.specs.Places.{fixed_words};
 use crate::fault::AssemblyFault;
 use crate::pass1::read_names;
 use crate::pass2::{State, assemble_line};
-use crate::source_line::parse_lines;
+use agc_encode::parse_lines;
 use agc_listing::PlacedWord;
 use agc_store::place::FIXED_WORDS;
 use std::alloc::{AllocError, Global};

@@ -1,12 +1,7 @@
 //! Explains which word of a source line is at fault: the name in its first column, its order, or its operand.
-use crate::alias::Alias;
-use crate::body::{code_of, is_operation};
 use crate::channels::note_channels;
-use crate::fault::SourceFault;
 use crate::fault_place::{has_letter, word_at_fault};
-use crate::mnemonic::Directive;
-use crate::names::Names;
-use crate::source_line::parse_lines;
+use agc_encode::{Alias, Directive, Names, SourceFault, code_of, is_operation, parse_lines};
 use agc_interpretive::Operation;
 use agc_listing::{
     cut_label, is_listed, is_name, next_parsed, offset_parsed, push_file_bytes, push_quoted,

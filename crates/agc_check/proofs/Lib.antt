@@ -1,13 +1,4 @@
+pub mod AllKeys
 pub mod Numbered
 pub mod Placed
 pub mod VectorTexts
-pub mod AllKeys
-pub mod BytesBack
-pub mod Converted
-pub mod Patched
-pub mod RightParity
-pub mod Sums
-pub mod WordReadings
-pub mod Repaired
-pub mod Merged
-pub mod CheckWords

@@ -4,7 +4,7 @@ use Rattle.std.specs.List.{list_any, range_with_len}
 use Rattle.agc_word.specs.Number.{Number}
 use Rattle.agc_listing.specs.Place.{place_text}
 use Rattle.agc_listing.specs.declared.place.Place.TheVariants as place
-use Rattle.agc_check.specs.Holdings.{is_woven_at}
+use Rattle.agc_mend.specs.Woven.{is_woven_at}
 
 -- the vectors of the ten interrupts: 4004, 4010 and so on to 4050 octal
 unfoldable pub vector_of : ℕ → ℕ

@@ -1,10 +1,10 @@
 //! Decides what the words with wrong parity of a file come from, and finds the repairs of all of them.
 ghost use Rattle.std.specs.Prelude.{◌≡◌, ◌%◌, length};
 
-use crate::parity::{BadWord, bad_words, damaged_store};
-use crate::repair::{Repair, Sureness, repairs, word_repaired};
-use crate::repair_lines::push_repair_line;
-use crate::rope_bytes::file_words;
+use agc_mend::{
+    BadWord, Repair, Sureness, bad_words, damaged_store, file_words, push_repair_line, repairs,
+    word_repaired,
+};
 use agc_store::place::FIXED_WORDS;
 use agc_store::{RopeForm, Store};
 use std::alloc::{AllocError, Global};

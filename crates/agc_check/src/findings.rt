@@ -1,15 +1,12 @@
 //! Reports what a restorer wants to know of a rope file: words with wrong parity and their repairs, how well each reading
 //! fits, the sums of the banks, and words that nothing reaches. Every remark says how sure it is.
-use crate::bank_sum::{BankSum, SumFit, sum_in_bank};
-use crate::bit_change::BitChange;
 use crate::damage::{Damage, MOST_REPAIRED, damage_of};
-use crate::parity::{BadWord, bad_words, damaged_store};
-use crate::reading::{ParityBit, Reading};
-use crate::repair::{Repair, repairs};
-use crate::repair_lines::push_repair;
-use crate::rope_bytes::file_words;
 use crate::scores::{Score, score_readings};
 use agc_listing::{push_rope_place, read_line};
+use agc_mend::{
+    BadWord, BankSum, BitChange, ParityBit, Reading, Repair, SumFit, bad_words, damaged_store,
+    file_words, push_repair, repairs, sum_in_bank,
+};
 use agc_store::place::{FIXED_BANKS, FIXED_WORDS, place_of};
 use agc_store::{RopeForm, Store};
 use agc_word::{Narrow, next_line};

@@ -1,18 +1,16 @@
 //! Counts what a rope and a script hold.
-ghost use Rattle.std.specs.Prelude.{◌≡◌, ◌<◌, ◌*◌, ◌+◌};
-ghost use Rattle.agc_store.specs.Places.{fixed_banks, fixed_words};
+ghost use Rattle.std.specs.Prelude.{◌≡◌};
 ghost use Rattle.agc_check.specs.Holdings.{
   bank_count,
-  has_words,
-  is_woven_at,
   rope_holdings,
   script_holdings,
   span_of,
   word_count,
 };
 
+use agc_mend::{has_words, is_woven_at};
 use agc_script::Script;
-use agc_store::place::{FIXED_BANK_SIZE, FIXED_BANKS, FIXED_WORDS};
+use agc_store::place::{FIXED_BANKS, FIXED_WORDS};
 use agc_store::{Rope, Store};
 
 /// How much of a rope is used.
@@ -75,25 +73,6 @@ fn bank_count(store: &Store) -> usize
     (0..usize::from(FIXED_BANKS))
         .filter(|bank| has_words(store, *bank))
         .count()
-}
-
-/// Returns whether a bank has a word that is not +0.
-#[tactic(auto, unfolding(crate::specs::Holdings::has_words))]
-pub(crate) fn has_words(store: &Store, bank: usize) -> bool
-    requires { bank < fixed_banks }
-    ensures { result ≡ has_words store.now.fixed bank }
-{
-    let size = usize::from(FIXED_BANK_SIZE);
-    (0..size).any(|offset| is_woven_at(store, size * bank + offset))
-}
-
-/// Returns whether the word at a place, 2000 octal times its bank plus its offset, is not +0.
-#[tactic(auto, unfolding(crate::specs::Holdings::is_woven_at))]
-pub(crate) fn is_woven_at(store: &Store, place: usize) -> bool
-    requires { place < fixed_words }
-    ensures { result ≡ is_woven_at store.now.fixed place }
-{
-    store.fixed_at(place).bits() != 0
 }
 
 /// Counts the events of a script.

@@ -7,10 +7,10 @@ ghost use Rattle.agc_check.specs.RopeReport.{IsPlaced, bad_word_text, parity_why
 ghost use Rattle.agc_check.specs.RopeReport.{rope_holdings_text, rope_report, rope_why, sound_rope_text, word_with_parity};
 
 use crate::holdings::{RopeHoldings, holdings_in};
-use crate::rope_bytes::word_in_file;
 use crate::vectors::push_vectors;
 use agc_listing::{Place, listed_address, push_place};
 use agc_load::LoadFault;
+use agc_mend::word_in_file;
 use agc_store::place::place_of;
 use agc_store::{Rope, RopeFault, RopeForm, Store};
 use agc_word::Narrow;

@@ -3,11 +3,11 @@
 ghost use Rattle.std.specs.Prelude.{◌≤◌, length};
 ghost use Rattle.agc_store.specs.Places.{fixed_words};
 
-use crate::bit_change::{BitChange, undo_bit_change};
-use crate::parity::{damaged_store, is_bad_parity, word_at};
-use crate::reading::{ParityBit, Reading, convert};
-use crate::rope_bytes::file_of_words;
 use crate::walk::{Reach, follow_orders};
+use agc_mend::{
+    BitChange, ParityBit, Reading, convert, damaged_store, file_of_words, is_bad_parity,
+    undo_bit_change, word_at,
+};
 use agc_store::RopeForm;
 use agc_store::place::FIXED_WORDS;
 use std::alloc::{AllocError, Global};

@@ -1,6 +1,6 @@
 //! Prints the sum of a bank, what it should be, and the word that would make it right.
-use crate::bank_sum::{BankSum, SumFit};
 use agc_listing::push_rope_place;
+use agc_mend::{BankSum, SumFit};
 use agc_store::place::{FIXED_WORDS, place_of};
 use agc_word::Narrow;
 use std::alloc::AllocError;

@@ -3,8 +3,8 @@ ghost use Rattle.std.specs.Prelude.{◌≡◌, ◌<◌, ◌++◌, OnOk, string_b
 ghost use Rattle.agc_check.specs.Vectors.{empty_vectors_text, has_empty_vector, is_empty_vector, remark_head};
 ghost use Rattle.agc_check.specs.Vectors.{vector_of, vector_text, vectors_remark, vectors_text};
 
-use crate::holdings::is_woven_at;
 use agc_listing::{Place, push_place};
+use agc_mend::is_woven_at;
 use agc_store::Store;
 use std::alloc::AllocError;
 

@@ -2,8 +2,8 @@
 ghost use Rattle.std.specs.Prelude.{◌<◌};
 ghost use Rattle.agc_store.specs.Places.{fixed_words};
 
-use crate::legal::is_legal;
 use agc_listing::{Location, sure_location};
+use agc_mend::is_legal;
 use agc_order::{Basic, Extracode};
 use agc_store::Store;
 use agc_store::place::{FIXED_BANK_SIZE, FIXED_FIXED, FIXED_WINDOW, FIXED_WORDS};

@@ -6,9 +6,9 @@ use Rattle.agc_store.specs.Cells.{narrow_number}
 use Rattle.agc_store.specs.Places.{fixed_bank_size, fixed_words}
 use Rattle.agc_store.specs.RopeFile.{is_bad_parity}
 use Rattle.agc_word.specs.Number.{Number}
-use Rattle.agc_check.specs.Repair.{word_repaired}
-use Rattle.agc_check.specs.declared.repair.Repair.{Repair}
-use Rattle.agc_check.specs.declared.repair.Sureness.TheVariants as how
+use Rattle.agc_mend.specs.Repair.{word_repaired}
+use Rattle.agc_mend.specs.declared.repair.Repair.{Repair}
+use Rattle.agc_mend.specs.declared.repair.Sureness.TheVariants as how
 
 -- a bit of sixteen; bit 0 is the parity bit
 abbrev pub bit_at : ℕ → ℕ → ℕ

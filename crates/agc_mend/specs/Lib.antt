@@ -1,2 +1,14 @@
-pub mod Columns
+pub mod BankSum
 pub mod Banks
+pub mod CheckWord
+pub mod Columns
+pub mod FileWords
+pub mod Legal
+pub mod Merge
+pub mod Modules
+pub mod Parity
+pub mod Patch
+pub mod Reading
+pub mod Repair
+pub mod WordDiff
+pub mod Woven

@@ -14,19 +14,13 @@ ghost use Rattle.agc_mend.specs.Banks.{
   words_of_banks,
 };
 
+use crate::parity::word_at;
 use agc_store::place::{FIXED_BANK_SIZE, FIXED_BANKS, FIXED_WORDS};
 use agc_store::{RopeForm, index_in_file};
 use std::alloc::{AllocError, Global};
 
 /// In a list of banks, a bank without words.
 pub const NO_BANK: u8 = FIXED_BANKS;
-
-/// Returns a word, 0 past the last one.
-pub(crate) fn word_at(words: &[u16], index: usize) -> u16
-    ensures { result ≡ get_or words.now index 0 }
-{
-    words.get(index).copied().unwrap_or(0)
-}
 
 /// Returns the words of these banks of a rope file, one bank after the other in the order of the list. Fails if out of memory.
 #[tactic(auto, unfolding(crate::specs::Banks::words_of_banks))]

@@ -2,7 +2,9 @@
 ghost use Rattle.std.specs.Prelude.{◌≡◌, ◌%◌, length};
 
 use crate::columns::column_repairs;
-use agc_check::{bad_words, damaged_store, file_words, push_repair_line};
+use crate::parity::{bad_words, damaged_store};
+use crate::repair_lines::push_repair_line;
+use crate::rope_bytes::file_words;
 use agc_store::RopeForm;
 use agc_store::place::FIXED_WORDS;
 use std::alloc::{AllocError, Global};

@@ -1,7 +1,6 @@
 //! Finds bits that are stuck in part of a rope, and repairs the words of such a column by their parity.
 ghost use Rattle.std.specs.Prelude.{◌≡◌, ◌<◌, ◌≤◌, ◌+◌, IfOk, IfSome, length};
 ghost use Rattle.agc_store.specs.Places.{fixed_words};
-ghost use Rattle.agc_check.specs.Repair.{word_repaired};
 ghost use Rattle.agc_mend.specs.Columns.{
   bit_at,
   column_at,
@@ -24,8 +23,8 @@ ghost use Rattle.agc_mend.specs.Columns.{
   wrong_in,
 };
 
-use crate::banks::word_at;
-use agc_check::{Repair, Sureness, is_bad_parity};
+use crate::parity::{is_bad_parity, word_at};
+use crate::repair::{Repair, Sureness, word_repaired};
 use agc_store::place::{FIXED_BANK_SIZE, FIXED_WORDS};
 use agc_word::Narrow;
 use std::alloc::{AllocError, Global};
@@ -231,14 +230,6 @@ pub fn column_of(columns: &[Option<u32>], place: usize) -> Option<u32>
         Some(Some(bit)) if bit < 16 => Some(bit),
         _ => None,
     }
-}
-
-/// Returns the fifteen bits of a word of which one of its sixteen bits is flipped.
-fn word_repaired(word: u16, bit: u32) -> Narrow
-    requires { bit < 16 }
-    ensures { result ≡ word_repaired word bit }
-{
-    Narrow::with_bits((word ^ 1 << bit) / 2)
 }
 
 /// Returns the repair of a word by the bit that is stuck at its place.

@@ -1,6 +1,6 @@
 //! The words in which two ropes differ.
-use agc_check::{MovedBlock, moved_blocks};
 use agc_listing::{leads_on, next_is_extracode, push_order, push_rope_place};
+use agc_mend::{MovedBlock, moved_blocks};
 use agc_store::Store;
 use agc_store::place::FIXED_WORDS;
 use agc_word::Narrow;

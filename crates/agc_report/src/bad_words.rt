@@ -1,10 +1,9 @@
 //! The table of words with wrong parity, and their repairs by one bit.
 use crate::escaped::push_escaped;
 use crate::rope_words::RopeWords;
-use agc_check::{
-    BadWord, Damage, MOST_REPAIRED, Repair, is_extracode_at, push_repair_line, push_stuck, repairs,
-};
+use agc_check::{Damage, MOST_REPAIRED, push_stuck};
 use agc_listing::{push_order, push_rope_place};
+use agc_mend::{BadWord, Repair, is_extracode_at, push_repair_line, repairs};
 use agc_store::place::FIXED_WORDS;
 use agc_word::Narrow;
 use std::alloc::{AllocError, Global};

@@ -1,6 +1,6 @@
 //! Draws a rope as a map: a tile for each bank, in a row those of a module, with a cell for each word.
 use crate::rope_words::{BANKS, Held, RopeWords, SIZE, place_in};
-use agc_check::{SumFit, sum_in_bank};
+use agc_mend::{SumFit, sum_in_bank};
 use std::alloc::AllocError;
 
 /// The words in a row of a tile: 100 octal.

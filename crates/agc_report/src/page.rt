@@ -3,7 +3,7 @@ use crate::apart::push_apart;
 use crate::head::{HEAD, TAIL};
 use crate::rope_words::{RopeWords, read_words};
 use crate::section::push_section;
-use agc_check::places_apart;
+use agc_mend::places_apart;
 use agc_store::RopeForm;
 use std::alloc::{AllocError, Global};
 

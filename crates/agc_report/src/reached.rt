@@ -1,7 +1,7 @@
 //! Finds the places to which orders lead from 4000 and the interrupt vectors, without a change of bank. `follow_orders` of
 //! agc_check counts them by the same rules.
-use agc_check::is_legal;
 use agc_listing::{Location, sure_location};
+use agc_mend::is_legal;
 use agc_order::{Basic, Extracode};
 use agc_store::Store;
 use agc_store::place::{FIXED_BANK_SIZE, FIXED_FIXED, FIXED_WINDOW, FIXED_WORDS};

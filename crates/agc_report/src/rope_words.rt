@@ -1,6 +1,7 @@
 //! The words of a rope file, and what is known of them.
 use crate::reached::reached_places;
-use agc_check::{BadWord, Damage, bad_words, damage_of, damaged_store, file_words};
+use agc_check::{Damage, damage_of};
+use agc_mend::{BadWord, bad_words, damaged_store, file_words};
 use agc_store::place::{FIXED_BANK_SIZE, FIXED_BANKS, FIXED_WORDS};
 use agc_store::{RopeForm, Store};
 use std::alloc::{AllocError, Global};

@@ -1,8 +1,8 @@
 //! The table of the sums of banks.
 use crate::map::fit_in;
 use crate::rope_words::{BANKS, RopeWords};
-use agc_check::{BankSum, SumFit, sum_in_bank};
 use agc_listing::push_rope_place;
+use agc_mend::{BankSum, SumFit, sum_in_bank};
 use agc_store::place::place_of;
 use std::alloc::AllocError;
 

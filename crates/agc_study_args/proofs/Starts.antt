@@ -19,7 +19,7 @@ use Rattle.agc_load.specs.Steps.{IsOutcome, refusal_in}
 use Rattle.agc_load.specs.declared.fault.LoadFault.{LoadFault}
 use Rattle.agc_load.specs.declared.fault.LoadFault.TheVariants as refusal
 use Rattle.agc_study_args.proofs.RopeReads.{known_memory}
-use Rattle.agc_check.specs.declared.parity.BadWord.{BadWord}
+use Rattle.agc_mend.specs.declared.parity.BadWord.{BadWord}
 use Rattle.agc_study_args.specs.RopeRead.{reading_steps, wrong_words}
 use Rattle.agc_study_args.specs.Started.{AreWrong, IsAccepted, IsRefused, IsStarted, in_form, starting_steps, watched_steps}
 use Rattle.agc_study_args.specs.declared.runs.Start.{Start}

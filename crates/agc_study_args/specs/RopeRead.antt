@@ -6,9 +6,9 @@ use Rattle.agc_store.specs.declared.rope_file.RopeFault.{RopeFault}
 use Rattle.agc_store.specs.declared.rope_file.RopeFault.TheVariants as fault
 use Rattle.agc_store.specs.declared.rope_file.RopeForm.{RopeForm}
 use Rattle.agc_store.specs.declared.rope_file.RopeForm.TheVariants as form
-use Rattle.agc_check.specs.FileWords.{file_words}
-use Rattle.agc_check.specs.Parity.{bad_words}
-use Rattle.agc_check.specs.declared.parity.BadWord.{BadWord}
+use Rattle.agc_mend.specs.FileWords.{file_words}
+use Rattle.agc_mend.specs.Parity.{bad_words}
+use Rattle.agc_mend.specs.declared.parity.BadWord.{BadWord}
 use Rattle.agc_io.specs.declared.input.ReadFault.TheVariants as read
 use Rattle.agc_load.specs.Steps.{Step, checks, refused_if, requires_resource}
 use Rattle.agc_load.specs.declared.fault.LoadFault.TheVariants as refusal

@@ -1,7 +1,7 @@
 //! The parsed arguments of `agc-study`, one struct for each subcommand.
-use agc_check::{BitChange, Reading};
 use agc_dump::Radix;
 use agc_load::RunFiles;
+use agc_mend::{BitChange, Reading};
 use agc_store::RopeForm;
 use agc_trace::{DiffBy, Layout, Notation, Selection, Span};
 

@@ -3,12 +3,11 @@ ghost use Rattle.std.specs.Prelude.{◌<◌};
 ghost use Rattle.agc_store.specs.Places.{fixed_words};
 
 use crate::args::{ConvertArgs, DumpArgs, Moved};
-use agc_check::{
-    BadWord, BitChange, Dump, ParityBit, Reading, bad_words, convert, file_of_words, file_words,
-    right_words, undo_bit_change, words_in_banks,
-};
 use agc_dump::{DumpLayout, Radix, push_dump};
-use agc_mend::{NO_BANK, words_of_banks};
+use agc_mend::{
+    BadWord, BitChange, Dump, NO_BANK, ParityBit, Reading, bad_words, convert, file_of_words,
+    file_words, right_words, undo_bit_change, words_in_banks, words_of_banks,
+};
 use agc_store::place::{FIXED_BANK_SIZE, FIXED_BANKS, FIXED_WORDS, bank_of, offset_of};
 use agc_store::{RopeFault, RopeForm, index_in_file};
 use std::alloc::{AllocError, Global};

@@ -1,14 +1,14 @@
 //! Reads the rope file of every subcommand: as `agc` reads it, or whatever its parity.
 ghost use Rattle.std.specs.Prelude.{◌≡◌, IfErr, IfOk, IfSome, None, OnOk, Some, false, true, unwrap_or};
 ghost use Rattle.agc_store.specs.RopeFile.{rope_words};
-ghost use Rattle.agc_check.specs.FileWords.{file_words};
-ghost use Rattle.agc_check.specs.Parity.{bad_words};
+ghost use Rattle.agc_mend.specs.FileWords.{file_words};
+ghost use Rattle.agc_mend.specs.Parity.{bad_words};
 ghost use Rattle.agc_load.specs.Steps.{IsOutcome, refusal_in};
 ghost use Rattle.agc_study_args.specs.RopeRead.{has_faulty_length, reading_steps, rope_refusal, wrong_words};
 
-use agc_check::{BadWord, bad_words, file_words, right_parity};
 use agc_io::{ROPE_BYTES, ReadError, read_limited};
 use agc_load::LoadFault;
+use agc_mend::{BadWord, bad_words, file_words, right_parity};
 use agc_store::place::FIXED_WORDS;
 use agc_store::{Rope, RopeFault, RopeForm};
 use std::alloc::{AllocError, Global};

@@ -2,8 +2,8 @@
 ghost use Rattle.std.specs.Prelude.{◌<◌};
 ghost use Rattle.agc_store.specs.Places.{fixed_words};
 
-use agc_check::{MovedBlock, moved_blocks, places_apart};
 use agc_listing::{leads_on, next_is_extracode, push_order, push_rope_place};
+use agc_mend::{MovedBlock, moved_blocks, places_apart};
 use agc_store::Store;
 use agc_store::place::{FIXED_BANKS, FIXED_WORDS, bank_of};
 use agc_word::Narrow;

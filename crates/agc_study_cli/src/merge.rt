@@ -1,8 +1,8 @@
 //! Parses the arguments of `merge`: dumps, each read as the options before it say.
 use crate::restore::{bank_of_text, change_of, reading_of};
 use crate::values::{mistake, push};
-use agc_check::Reading;
 use agc_cli::ArgsFault;
+use agc_mend::Reading;
 use agc_study_args::{Args, DumpArgs, MOST_DUMPS, MergeArgs};
 use clap::ArgMatches;
 use std::alloc::Global;

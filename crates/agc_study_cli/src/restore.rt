@@ -2,9 +2,9 @@
 use crate::bank_list::banks_of;
 use crate::runs::other_form_of;
 use crate::values::{push, refused};
-use agc_check::{BitChange, ParityBit, Reading};
 use agc_cli::{ArgsFault, form_of, number_of, path_of, text_of};
 use agc_dump::Radix;
+use agc_mend::{BitChange, ParityBit, Reading};
 use agc_store::RopeForm;
 use agc_study_args::{Args, ConvertArgs, Moved, PatchArgs, RepairArgs, SumsArgs, WordsArgs};
 use agc_word::read_octal;

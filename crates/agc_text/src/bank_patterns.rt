@@ -5,8 +5,7 @@ use crate::bank_sums::{
     BANKS, RopeBits, WordsRead, has_last_bit, has_same_words, has_wrong_parity, is_all_ones,
     is_first_empty, is_first_named, is_used, is_used_read, number_of, sum_read,
 };
-use agc_check::{SumFit, fit_of};
-use agc_mend::NO_BANK;
+use agc_mend::{NO_BANK, SumFit, fit_of};
 use agc_store::RopeForm;
 use std::alloc::{AllocError, Global};
 

@@ -1,5 +1,5 @@
 //! Adds the words of a bank as they are, and as they would be without damage of one kind.
-use agc_check::{is_bad_parity, word_sum};
+use agc_mend::{is_bad_parity, word_sum};
 use agc_store::place::{FIXED_BANK_SIZE, FIXED_BANKS, FIXED_WORDS};
 use agc_store::{RopeForm, index_in_file};
 use agc_word::Narrow;

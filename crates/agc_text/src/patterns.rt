@@ -3,7 +3,8 @@
 use crate::bank_patterns::push_bank_patterns;
 use crate::bank_sums::rope_bits;
 use crate::stuck_columns::push_stuck_columns;
-use agc_check::{file_words, push_findings};
+use agc_check::push_findings;
+use agc_mend::file_words;
 use agc_store::RopeForm;
 use agc_store::place::FIXED_WORDS;
 use std::alloc::{AllocError, Global};

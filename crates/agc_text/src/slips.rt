@@ -1,6 +1,6 @@
 //! Compares two transcriptions of one listing, and names the likely slips of those who typed them.
-use agc_check::{SumFit, fit_of, word_sum};
 use agc_listing::{octal_word, push_file_bytes, push_rope_place, read_place};
+use agc_mend::{SumFit, fit_of, word_sum};
 use agc_store::place::{FIXED_BANK_SIZE, FIXED_BANKS, FIXED_WORDS};
 use agc_word::{Narrow, next_line, next_word};
 use std::alloc::{AllocError, Global};

@@ -6,13 +6,13 @@ use Rattle.agc_store.specs.Places.{fixed_bank_size, fixed_banks, fixed_words}
 use Rattle.agc_store.specs.declared.rope_file.RopeForm.{RopeForm}
 use Rattle.agc_listing.specs.List.{listed_address}
 use Rattle.agc_listing.specs.declared.line.PlacedWord.{PlacedWord}
-use Rattle.agc_check.specs.BankSum.{sum_of_bank}
-use Rattle.agc_check.specs.CheckWord.{check_word}
-use Rattle.agc_check.specs.FileWords.{file_of_words, file_words}
-use Rattle.agc_check.specs.Parity.{damaged_words}
-use Rattle.agc_check.specs.Patch.{with_word}
-use Rattle.agc_check.specs.Repair.{fits}
-use Rattle.agc_check.specs.declared.bank_sum.BankSum.{BankSum}
+use Rattle.agc_mend.specs.BankSum.{sum_of_bank}
+use Rattle.agc_mend.specs.CheckWord.{check_word}
+use Rattle.agc_mend.specs.FileWords.{file_of_words, file_words}
+use Rattle.agc_mend.specs.Parity.{damaged_words}
+use Rattle.agc_mend.specs.Patch.{with_word}
+use Rattle.agc_mend.specs.Repair.{fits}
+use Rattle.agc_mend.specs.declared.bank_sum.BankSum.{BankSum}
 
 -- the place behind the last word of a bank that is not +0, if three words have room there
 abbrev pub start_behind : Option BankSum → Option ℕ

@@ -1,8 +1,8 @@
 //! The sums of a rope's banks as flight ropes have them: two words TC SELF and a check word end each bank.
 ghost use Rattle.std.specs.Prelude.{◌≡◌, ◌<◌, ◌+◌, ◌++◌, ◌%◌, length, IfOk, IfSome, OnOk, option_map, true};
 ghost use Rattle.agc_store.specs.Places.{fixed_banks, fixed_words};
-ghost use Rattle.agc_check.specs.BankSum.{sum_of_bank};
-ghost use Rattle.agc_check.specs.Parity.{damaged_words};
+ghost use Rattle.agc_mend.specs.BankSum.{sum_of_bank};
+ghost use Rattle.agc_mend.specs.Parity.{damaged_words};
 ghost use Rattle.agc_woven.specs.Sums.{
   are_right,
   checked_bank,
@@ -26,10 +26,10 @@ ghost use Rattle.agc_woven.specs.Sums.{
   with_used,
 };
 
-use agc_check::{
+use agc_listing::{PlacedWord, listed_address};
+use agc_mend::{
     BankSum, SumFit, check_word, damaged_store, file_of_words, file_words, put_word, sum_in_bank,
 };
-use agc_listing::{PlacedWord, listed_address};
 use agc_store::place::{FIXED_BANK_SIZE, FIXED_BANKS, FIXED_WORDS, place_of};
 use agc_store::{RopeForm, Store};
 use agc_word::Narrow;

@@ -1,6 +1,6 @@
 //! Tests how dumps are merged, worked out by hand.
 use super::same;
-use agc_check::{Choice, Decision, Dump, DumpWord, merge, words_at, words_of_choices};
+use agc_mend::{Choice, Decision, Dump, DumpWord, merge, words_at, words_of_choices};
 use std::process::Abort;
 
 /// Returns a dump with these words.

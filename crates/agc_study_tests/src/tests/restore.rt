@@ -1,16 +1,16 @@
 //! Tests what restores a damaged rope, worked out by hand.
 use super::{repeated, rope_of, same};
-use agc_check::{
-    BadWord, BankSum, BitChange, Damage, MovedBlock, ParityBit, Reach, Reading, Repair, SumFit,
-    Sureness, apply_patch, bad_words, check_word, check_words_make_sums_right, convert,
-    converting_there_and_back, damage_of, file_of_words, file_words, files_hold_their_words,
-    fit_of, follow_orders, is_bad_parity, is_legal, may_be_modules, moved_blocks, places_apart,
-    push_repair_line, repairs, right_parity, score_readings, sum_in_bank,
-    the_missing_word_makes_the_sum, undo_bit_change, word_sum, words_in_banks,
-    words_make_their_file,
-};
+use agc_check::{Damage, Reach, damage_of, follow_orders, score_readings};
 use agc_listing::PlacedWord;
 use agc_load::LoadFault;
+use agc_mend::{
+    BadWord, BankSum, BitChange, MovedBlock, ParityBit, Reading, Repair, SumFit, Sureness,
+    apply_patch, bad_words, check_word, check_words_make_sums_right, convert,
+    converting_there_and_back, file_of_words, file_words, files_hold_their_words, fit_of,
+    is_bad_parity, is_legal, may_be_modules, moved_blocks, places_apart, push_repair_line, repairs,
+    right_parity, sum_in_bank, the_missing_word_makes_the_sum, undo_bit_change, word_sum,
+    words_in_banks, words_make_their_file,
+};
 use agc_store::{RopeFault, RopeForm, Store};
 use agc_study_args::{RopeRead, read_any_rope};
 use agc_word::Narrow;

@@ -1,5 +1,0 @@
-use Rattle.agc_asm.proofs.Tokens.{zero_token}
-use Rattle.agc_asm.proofs.encode.order_of_zero.Goals as goal
-
-pub returns : goal.returns
-returns c = rw zero_token at c.encode_order.ensures

@@ -1,5 +1,0 @@
-use Rattle.agc_check.proofs.Sums.{missing}
-use Rattle.agc_check.proofs.bank_sum.the_missing_word_makes_the_sum.Goals as goal
-
-pub returns : goal.returns
-returns c = missing

@@ -1,5 +1,0 @@
-use Rattle.agc_check.proofs.CheckWords.{both_fit}
-use Rattle.agc_check.proofs.check_words.check_words_make_sums_right.Goals as goal
-
-pub returns : goal.returns
-returns c = both_fit

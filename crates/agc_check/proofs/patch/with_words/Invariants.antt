@@ -1,6 +1,0 @@
-use Rattle.std.specs.Prelude.{◌≡◌, fold, take}
-use Rattle.agc_check.specs.Patch.{with_word}
-use Rattle.agc_check.proofs.patch.with_words.Given as goal
-
-abbrev pub invariant-loop-named : goal.invariant-loop-named
-invariant-loop-named l = l.new.items ≡ fold (with_word l.form) l.words (take l.named-index l.parsed)

@@ -1,5 +1,0 @@
-use Rattle.agc_check.proofs.Converted.{there_and_back}
-use Rattle.agc_check.proofs.reading.converting_there_and_back.Goals as goal
-
-pub returns : goal.returns
-returns c = there_and_back

@@ -1,5 +1,0 @@
-use Rattle.agc_check.proofs.BytesBack.{file_back}
-use Rattle.agc_check.proofs.rope_bytes.words_make_their_file.Goals as goal
-
-pub returns : goal.returns
-returns c = file_back

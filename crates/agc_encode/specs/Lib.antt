@@ -1,0 +1,14 @@
+pub mod Alias
+pub mod Body
+pub mod Numeral
+pub mod Row
+pub mod Name
+pub mod Mnemonic
+pub mod FaultText
+pub mod LocationCounter
+pub mod Operand
+pub mod LineKind
+pub mod Interpretive
+pub mod Encode
+pub mod UnknownOperation
+pub mod Disassemble

@@ -1,0 +1,9 @@
+pub mod BytesBack
+pub mod CheckWords
+pub mod Converted
+pub mod Merged
+pub mod Patched
+pub mod Repaired
+pub mod RightParity
+pub mod Sums
+pub mod WordReadings
