@@ -31,7 +31,7 @@ import subprocess
 import tempfile
 from collections import deque
 from types import TracebackType
-from typing import IO, Any, Callable, Deque, Dict, FrozenSet, Iterator, List, NamedTuple, Optional, Sequence, Tuple, Type, Union
+from typing import IO, Any, Callable, Deque, Dict, Iterator, List, NamedTuple, Optional, Sequence, Tuple, Type, Union
 
 __all__ = [
     "Answer", "Breakpoint", "Came", "Console", "Ended", "Error", "Hit", "Location", "NotSaved", "Number", "Refused", "Registers",
@@ -53,7 +53,7 @@ Place = Union[int, str]
 also "LOOP", or some words beyond or before it, "LOOP+3"."""
 
 Row = Dict[str, float]
-"""A row of samples: the cycle and the seconds, and each quantity by the name of its column. Cycles and bits are integers."""
+"""A row of samples: the cycle and the seconds, and each quantity by the name of its column. Cycles, bits and octal codes are integers."""
 
 LAST_CYCLE = 1_000_000_000_000
 """The last cycle of all: a machine without a limit stops there."""
@@ -913,6 +913,10 @@ def _program(named: Union[None, Path, Sequence[str]], name: str = CONSOLE) -> Li
     return list(named)
 
 
+def _octal(text: str) -> int:
+    return int(text, 8)
+
+
 class Samples:
     """The rows of `agc-study sample`. Each loop over them runs the program anew; one that is broken off ends it."""
 
@@ -922,9 +926,9 @@ class Samples:
         self._quantities = quantities
 
     def __iter__(self) -> Iterator[Row]:
-        bits = self._columns_of_bits()
+        readers = self._readers()
         with self._running() as (names, output):
-            kinds = [int if name in bits else float for name in names]
+            kinds = [readers.get(name, float) for name in names]
             for line in output:
                 yield {name: kind(text) for name, kind, text in zip(names, kinds, line.split(","))}
 
@@ -934,22 +938,29 @@ class Samples:
             import pandas
         except ImportError:
             raise Error("a frame needs pandas, which is not there: install it (Debian: python3-pandas), or loop over the rows") from None
-        bits = self._columns_of_bits()
+        readers = self._readers()
         with self._running() as (names, output):
-            kinds = {name: "int64" if name in bits else "float64" for name in names}
+            octals = [name for name in names if readers.get(name) is _octal]
+            kinds = {name: "int64" if name in readers else "float64" for name in names if name not in octals}
             try:
-                return pandas.read_csv(output, header=None, names=names, dtype=kinds, float_precision="round_trip")
+                return pandas.read_csv(output, header=None, names=names, dtype=kinds, converters=dict.fromkeys(octals, _octal), float_precision="round_trip")
             except pandas.errors.EmptyDataError:
-                return pandas.DataFrame({name: pandas.Series(dtype=kind) for name, kind in kinds.items()})
+                return pandas.DataFrame({name: pandas.Series(dtype=kinds.get(name, "int64")) for name in names})
 
-    def _columns_of_bits(self) -> FrozenSet[str]:
-        """The columns that have integers."""
+    def _readers(self) -> Dict[str, Callable[[str], int]]:
+        """How the columns that have integers are read."""
+        readers: Dict[str, Callable[[str], int]] = {"cycle": int}
         try:
             with open(self._quantities, encoding="ascii", errors="replace") as file:
                 lines = [line.partition("#")[0].split() for line in file]
         except OSError:
-            return frozenset()  # the program says what is wrong
-        return frozenset(["cycle", *(fields[0] for fields in lines if fields[2:3] == ["bits"])])
+            return readers  # the program says what is wrong
+        for fields in lines:
+            if fields[2:3] == ["bits"]:
+                readers[fields[0]] = int
+            elif fields[2:3] == ["octal"]:
+                readers[fields[0]] = _octal
+        return readers
 
     @contextlib.contextmanager
     def _running(self) -> Iterator[Tuple[List[str], IO[str]]]:

@@ -102,6 +102,8 @@ def try_quantities():
     judge("too few words make no note", 0, sum(line.startswith("# pair") for line in fewer[1]))
     vector = answered("poke 0 100 1\npoke 0 105 2\nprint way\n", KEYS, os.devnull, "--quantities", file_with("q", "way 0100 vector B28 m\n"))
     judge("a vector", ["# way 16384, 0, 2 m"], [line for line in vector[1] if line.startswith("# way")])
+    code = answered("poke 0 100 1202\nprint code\n", KEYS, os.devnull, "--quantities", file_with("q", "code 0100 octal 15-1\n"))
+    judge("a code in octal", ["# code 01202"], [line for line in code[1] if line.startswith("# code")])
     bad = file_with("bad", "a 0100 single B14\na 0101 single B14\n")
     judge("a faulty file", (1, [], ["agc-console: quantities line 2: an earlier line has this name or column"]), refused(KEYS, os.devnull, "--quantities", bad))
     none = (1, [], ["agc-console: cannot read quantities"])

@@ -5,7 +5,7 @@ import subprocess
 import sys
 import time
 from pathlib import Path
-from typing import Any, Dict, List
+from typing import Any, Callable, Dict, List
 
 from agc import Ended, Error, Samples, sample
 from judge import STUDY, TOP, check, judge, scratch_folder
@@ -14,7 +14,8 @@ from runs import EXAMPLES
 ROPE, SCRIPT = EXAMPLES / "timers" / "rope", EXAMPLES / "timers" / "script"
 CHOICES: List[Dict[str, Any]] = [{"every": 500}, {"at": "4100"}, {"changes": True}]
 WRONG: List[Dict[str, Any]] = [{}, {"every": 5, "changes": True}, {"every": 5, "at": "4000"}]
-TEXT = "clock TIME2 double 2684354.56 s\nsome 0100 vector B3\nbit TIME4 bits 15-1\n"
+TEXT = "clock TIME2 double 2684354.56 s\nsome 0100 vector B3\nbit TIME4 bits 15-1\ncode TIME4 octal 15-1\n"
+READERS: Dict[str, Callable[[str], Any]] = {"cycle": int, "bit": int, "code": lambda text: int(text, 8)}
 
 
 def raised(kind: Any, call: Any) -> Any:
@@ -32,11 +33,11 @@ def try_client() -> None:
     for chosen, words in zip(CHOICES, (["--every", "500"], ["--at", "4100"], ["--changes"])):
         csv = subprocess.run([STUDY, "sample", ROPE, SCRIPT, "--limit", "5000", "--quantities", file, *words], capture_output=True, text=True, check=True)
         names, *lines = [line.split(",") for line in csv.stdout.splitlines()]
-        wanted = [{name: int(text) if name in ("cycle", "bit") else float(text) for name, text in zip(names, line)} for line in lines]
+        wanted = [{name: READERS.get(name, float)(text) for name, text in zip(names, line)} for line in lines]
         found = list(sample(ROPE, SCRIPT, 5000, file, program=STUDY, **chosen))
         judge(f"client {words}: the rows", wanted, found)
-        kinds = [type(found[0][name]) for name in ("cycle", "seconds", "clock", "some.x", "bit")] if found else []
-        check(f"client {words}: integers and floats: {kinds}", kinds == [int, float, float, float, int])
+        kinds = [type(found[0][name]) for name in ("cycle", "seconds", "clock", "some.x", "bit", "code")] if found else []
+        check(f"client {words}: integers and floats: {kinds}", kinds == [int, float, float, float, int, int])
     part = list(sample(ROPE, SCRIPT, 5000, file, every=500, options=["--from=1000", "--to=2000"], program=STUDY))
     check(f"client: options: {part}", part[0]["cycle"] >= 1000 and part[-1]["cycle"] <= 2000 and len(part) == 3)
     try_refusals(file)
@@ -50,7 +51,7 @@ def try_refusals(file: Path) -> None:
         check(f"client: {chosen}: {error!r}", isinstance(error, TypeError))
     file.write_text(TEXT + "again 0100 quad B3\n")
     error = raised(Ended, lambda: list(sample(ROPE, SCRIPT, 5000, file, every=5, program=STUDY)))
-    check(f"client: a faulty line: {error!r}", isinstance(error, Ended) and error.status == 2 and "line 4: " in str(error))
+    check(f"client: a faulty line: {error!r}", isinstance(error, Ended) and error.status == 2 and "line 5: " in str(error))
     error = raised(Ended, lambda: list(sample(ROPE, SCRIPT, 5000, "/no/such/file", every=5, program=STUDY)))
     check(f"client: no file: {error!r}", isinstance(error, Ended) and error.status == 2 and "/no/such/file" in str(error))
     error = raised(Ended, lambda: list(sample(ROPE, SCRIPT, 5000, file, every=5, program="/no/such/program")))

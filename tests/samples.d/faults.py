@@ -57,6 +57,8 @@ CASES: List[Case] = [
     ("bits up", second("a 0100 bits 3-5"), 3, "bits are"),
     ("bits down to 0", second("a 0100 bits 3-0"), 3, "bits are"),
     ("bits with B", second("a 0100 bits B14"), 3, "bits are"),
+    ("bit 16 in octal", second("a 0100 octal 16-1"), 3, "bits are"),
+    ("all bits in octal", second("a 0100 octal 15-1"), None, ""),
     ("a unit of 17 characters", second("a 0100 single B14 " + "m" * 17), 3, "a unit is"),
     ("a unit of 16 characters", second("a 0100 single B14 " + "m" * 16), None, ""),
     ("a unit that is not ASCII", second("a 0100 single B14 °"), 3, ""),

@@ -11,7 +11,7 @@ from typing import Dict, List, NamedTuple, Tuple
 
 from agc import Console
 from judge import AGC, CONSOLE, STUDY, TOP, check, judge, scratch_folder
-from quantities import SIZES, Quantity, seconds_text
+from quantities import BITS, SIZES, Quantity, seconds_text
 
 LOGS = int(os.environ.get("SAMPLES_LOGS", 200))
 SEED = os.environ.get("SAMPLES_SEED", "79")
@@ -162,7 +162,7 @@ def some_lists(chance: random.Random) -> Tuple[str, List[Sent]]:
             high = chance.randint(1, 15)
             low = chance.randint(1, high)
             one = Quantity(f"q{number}.{len(lines)}", place, kind, Fraction(full, 100), (high, low), "")
-            scale = f"{high}-{low}" if kind == "bits" else f"{full // 100}.{full % 100:02}"
+            scale = f"{high}-{low}" if kind in BITS else f"{full // 100}.{full % 100:02}"
             lists[-1].quantities.append(one)
             lines.append(f"{one.name} {place}\t{kind} {scale}{chance.choice((' m/s', ''))}{chance.choice(('', ' # this'))}")
     return "\n".join(lines) + "\n", lists

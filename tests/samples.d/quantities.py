@@ -8,7 +8,8 @@ import re
 from fractions import Fraction
 from typing import Dict, List, NamedTuple, Optional, Tuple
 
-SIZES = {"single": 1, "double": 2, "triple": 3, "vector": 6, "unsigned": 1, "bits": 1}
+SIZES = {"single": 1, "double": 2, "triple": 3, "vector": 6, "unsigned": 1, "bits": 1, "octal": 1}
+BITS = ("bits", "octal")  # kinds that take some bits of a word
 BANK = 0o400
 FIXED = -1  # of a name in fixed memory
 OWN_NAMES = {
@@ -41,9 +42,10 @@ class Quantity(NamedTuple):
         """Returns what its columns print for its words."""
         if self.kind == "vector":
             return [fraction_text(*worth(words[at:at + 2], self.full), is_minus_zero(words[at], zeros)) for at in (0, 2, 4)]
-        if self.kind == "bits":
+        if self.kind in BITS:
             high, low = self.bits
-            return [str(words[0] // 2 ** (low - 1) % 2 ** (high - low + 1))]
+            number = words[0] // 2 ** (low - 1) % 2 ** (high - low + 1)
+            return [f"{number:0{(high - low) // 3 + 1}o}" if self.kind == "octal" else str(number)]
         if self.kind == "unsigned":
             return [fraction_text(words[0] * self.full / 2**15, self.full / 2**15)]
         return [fraction_text(*worth(words, self.full), is_minus_zero(words[0], zeros))]
@@ -106,7 +108,7 @@ def cell_of(place: str, names: Dict[str, int]) -> Optional[int]:
 
 def scale_of(kind: str, text: str) -> Tuple[Fraction, Tuple[int, int]]:
     """Returns the value of a full word, or the bits, that a scale names."""
-    if kind == "bits":
+    if kind in BITS:
         high, _, low = text.partition("-")
         return Fraction(1), (int(high), int(low or high))
     return (Fraction(2) ** int(text[1:]) if text[0] == "B" else Fraction(text)), (0, 0)

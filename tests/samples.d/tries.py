@@ -14,7 +14,7 @@ from clients import try_client
 from faults import CASES
 from judge import STUDY, check, finish, judge, scratch_folder, slowness
 from links import try_lists, try_uplink
-from quantities import FIXED, SIZES, Quantity, cell_of, heading, names_of, read, row, signed
+from quantities import BITS, FIXED, SIZES, Quantity, cell_of, heading, names_of, read, row, signed
 from runs import EXAMPLES, ROPES, Lively, Run, State, every, in_span, lively, states_of, text_of, words_at, write_script
 from scales import try_abort, try_flags, try_landing, try_orbit, try_places
 
@@ -85,7 +85,7 @@ def cells_of(quantities: List[Quantity]) -> List[int]:
 
 def some_scale(chance: random.Random, kind: str) -> str:
     """A scale for a kind."""
-    if kind == "bits":
+    if kind in BITS:
         high = chance.randint(1, 15)
         return chance.choice((str(high), f"{high}-{chance.randint(1, high)}"))
     if chance.random() < 0.6:
@@ -184,6 +184,8 @@ def try_numbers() -> None:
     judge("a third of a turn", ["120"], Quantity("a", 0, "unsigned", Fraction(360), (0, 0), "").texts([0o25253]))
     judge("a large step", ["384"], Quantity("a", 0, "single", Fraction(2**20), (0, 0), "").texts([6]))
     judge("bits", ["5"], Quantity("a", 0, "bits", Fraction(1), (12, 10), "").texts([0o5000]))
+    judge("an alarm's code", ["01202"], Quantity("a", 0, "octal", Fraction(1), (15, 1), "").texts([0o1202]))
+    judge("four bits in octal", ["05"], Quantity("a", 0, "octal", Fraction(1), (6, 3), "").texts([0o24]))
 
 
 def try_faults() -> None:

@@ -43,6 +43,8 @@ VALUES = (
     ('bits 15-13', '50000', '5'),
     ('bits 13', '10000', '1'),
     ('bits 3-1', '77776', '6'),
+    ('octal 15-1', '01202', '01202'),
+    ('octal 6-3', '00024', '05'),
 )
 """A kind and a scale, words in octal, and the value."""
 
@@ -50,7 +52,7 @@ SECONDS = ((0, '0'), (1, '0.00001'), (256000, '3'), (85333, '1'), (-256000, '-3'
 """Cycles, and their seconds: 3/256000 each."""
 
 WRONG = (
-    ('a 0100 doubel B14', 'line 1: unknown kind doubel: single, double, triple, vector, unsigned, bits.'),
+    ('a 0100 doubel B14', 'line 1: unknown kind doubel: single, double, triple, vector, unsigned, bits, octal.'),
     ('1a 0100 single B14', 'line 1: bad name 1a: a letter, then letters, digits, _ . and -, at most 24.'),
     ('\n# one\na 0100 single B14\na 0101 single B14', 'line 4: a has a line already.'),
     ('a 0100 vector B14 m\na.y 0101 single B14', 'line 2: a.y has a line already.'),
@@ -92,7 +94,7 @@ def try_values(value):
     """Words become numbers, and numbers decimals; `value` runs a script in the page."""
     for scale, words, wanted in VALUES:
         text = f'q 0100 {scale} m'
-        script = f"(([column]) => decimalOf(numberOf({json.dumps([int(word, 8) for word in words.split()])}, column), column))(readQuantities({json.dumps(text)}).quantities[0].columns)"
+        script = f"(([column]) => textOf(numberOf({json.dumps([int(word, 8) for word in words.split()])}, column), column))(readQuantities({json.dumps(text)}).quantities[0].columns)"
         judge(f'{scale}: {words}', wanted, value(script))
     for cycle, wanted in SECONDS:
         judge(f'seconds of cycle {cycle}', wanted, value(f'decimalOf({cycle}, {{ p: 3n, b: 256000n }})'))

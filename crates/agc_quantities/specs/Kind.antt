@@ -10,3 +10,4 @@ size_of (kind.Triple scale) = 3
 size_of (kind.Vector scale) = 6
 size_of (kind.Unsigned scale) = 1
 size_of (kind.Bits high low) = 1
+size_of (kind.Octal high low) = 1

@@ -20,7 +20,7 @@ pub enum LineFault {
     UnknownPlace,
     #[error("the place is in fixed memory; cells are 0000 to 1377, or E0,1400 to E7,1777")]
     FixedPlace,
-    #[error("unknown kind: single, double, triple, vector, unsigned or bits")]
+    #[error("unknown kind: single, double, triple, vector, unsigned, bits or octal")]
     UnknownKind,
     #[error("a scale is B-60 to B60, or a positive number of at most 15 digits, as 180 or 0.0125")]
     BadScale,

@@ -50,7 +50,14 @@ pub(crate) fn read_kind(word: &[u8], scale: &[u8]) -> Result<Kind, LineFault> {
         b"triple" => Ok(Kind::Triple(read_scale(scale)?)),
         b"vector" => Ok(Kind::Vector(read_scale(scale)?)),
         b"unsigned" => Ok(Kind::Unsigned(read_scale(scale)?)),
-        b"bits" => read_bits(scale),
+        b"bits" => {
+            let (high, low) = read_bits(scale)?;
+            Ok(Kind::Bits { high, low })
+        }
+        b"octal" => {
+            let (high, low) = read_bits(scale)?;
+            Ok(Kind::Octal { high, low })
+        }
         _ => Err(LineFault::UnknownKind),
     }
 }
@@ -108,13 +115,13 @@ fn read_constant(word: &[u8]) -> Option<Scale> {
 }
 
 /// Parses bits: a bit, or two with a dash between them, the higher one first.
-fn read_bits(word: &[u8]) -> Result<Kind, LineFault> {
+fn read_bits(word: &[u8]) -> Result<(u32, u32), LineFault> {
     let (high, low) = match word.iter().position(|b| *b == b'-') {
         Some(dash) => (read_bit(&word[..dash]), read_bit(&word[dash + 1..])),
         None => (read_bit(word), read_bit(word)),
     };
     match (high, low) {
-        (Some(high), Some(low)) if low <= high => Ok(Kind::Bits { high, low }),
+        (Some(high), Some(low)) if low <= high => Ok((high, low)),
         _ => Err(LineFault::BadBits),
     }
 }

@@ -19,6 +19,8 @@ pub enum Kind {
     Unsigned(Scale),
     /// Some bits of a word: bit 15 is the highest, bit 1 the lowest.
     Bits { high: u32, low: u32 },
+    /// Some bits of a word, printed in octal.
+    Octal { high: u32, low: u32 },
 }
 
 impl Kind {
@@ -28,7 +30,7 @@ impl Kind {
         ensures range { result ≤ 6 }
     {
         match self {
-            Kind::Single(_) | Kind::Unsigned(_) | Kind::Bits { .. } => 1,
+            Kind::Single(_) | Kind::Unsigned(_) | Kind::Bits { .. } | Kind::Octal { .. } => 1,
             Kind::Double(_) => 2,
             Kind::Triple(_) => 3,
             Kind::Vector(_) => 6,

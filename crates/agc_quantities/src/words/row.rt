@@ -116,6 +116,7 @@ pub(crate) fn push_values(
             let bits = bits_of(first, high, low);
             write!(text, "{bits}")
         }
+        Kind::Octal { high, low } => push_octal(text, first, high, low),
     }
 }
 
@@ -139,6 +140,19 @@ fn bits_of(word: Narrow, high: u32, low: u32) -> u32 {
         }
     }
     bits
+}
+
+/// Appends some bits of a word in octal: all of the word are five digits.
+fn push_octal(text: &mut String, word: Narrow, high: u32, low: u32) -> Result<(), AllocError> {
+    let bits = bits_of(word, high, low);
+    for digits_below in 0..5u32 {
+        let place = 3 * (4 - digits_below);
+        if place <= high.saturating_sub(low) {
+            let digit = (bits >> place) % 8;
+            write!(text, "{digit}")?;
+        }
+    }
+    Ok(())
 }
 
 /// Appends the value of one to three words, which may have unlike signs.

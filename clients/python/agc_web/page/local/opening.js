@@ -10,7 +10,7 @@ const SHOWN_ALONE = ['quantities', 'nouns'];
 // What each line of a file begins with, by its kind.
 const LINE_OF = {
   script: /^\s*(#|\d+\s+(key|pro|input|pulse|raise|poke)\b|$)/,
-  quantities: /^\s*(#|[A-Za-z]\S*\s+\S+\s+(single|double|triple|vector|unsigned|bits)\s|$)/,
+  quantities: /^\s*(#|[A-Za-z]\S*\s+\S+\s+(single|double|triple|vector|unsigned|bits|octal)\s|$)/,
   nouns: /^\s*(#|(verb|noun) \d\d\s|$)/,
 };
 

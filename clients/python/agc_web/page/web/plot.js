@@ -223,7 +223,7 @@ function sampleAt(cycle) {
 
 function valueAt(sample, column) {
   const number = sample?.numbers[column.name];
-  return `${number === undefined ? '–' : decimalOf(number, column)} ${column.unit}`.trim();
+  return `${number === undefined ? '–' : textOf(number, column)} ${column.unit}`.trim();
 }
 
 // what is shown
@@ -397,7 +397,7 @@ function sayCursor(sample) {
 function plotAsCsv() {
   const head = ['cycle', 'seconds', ...plot.chosen.map(({ name }) => name)];
   const rows = plot.samples.map(({ cycle, numbers }) => [cycle, decimalOf(cycle, SECONDS),
-    ...plot.chosen.map((column) => (column.name in numbers ? decimalOf(numbers[column.name], column) : ''))]);
+    ...plot.chosen.map((column) => (column.name in numbers ? textOf(numbers[column.name], column) : ''))]);
   return [head, ...rows].map((fields) => `${fields.join(',')}${LINE}`).join('');
 }
 

@@ -2,7 +2,7 @@
 // Quantities: what cells hold, in units. A file has one a line, NAME PLACE KIND SCALE [UNIT], in the form of docs/WEB.md. A value is
 // printed as the shortest decimal that tells it from its neighbours.
 
-const KINDS = { single: [1, 14], double: [2, 28], triple: [3, 42], vector: [6, 28], unsigned: [1, 15], bits: [1, 0] }; // words, and bits behind the point
+const KINDS = { single: [1, 14], double: [2, 28], triple: [3, 42], vector: [6, 28], unsigned: [1, 15], bits: [1, 0], octal: [1, 0] }; // words, and bits behind the point
 const LARGEST_QUANTITIES = 1048576; // characters
 const MOST_COLUMNS = 64;
 const LARGEST_POWER = 60;
@@ -14,12 +14,20 @@ const BANK_CELLS = 256;
 
 const signed = (word) => (word > 0o37777 ? word - 0o77777 : word);
 
+// Whether a kind takes bits of a word, in place of a scale.
+const hasBits = (kind) => kind === 'bits' || kind === 'octal';
+
 // Returns the whole number that a column's words stand for; words of unlike sign are added.
 function numberOf(words, { kind, first, count, high, low }) {
   const own = words.slice(first, first + count);
   if (kind === 'unsigned') return own[0];
-  if (kind === 'bits') return (own[0] >> (low - 1)) % 2 ** (high - low + 1);
+  if (hasBits(kind)) return (own[0] >> (low - 1)) % 2 ** (high - low + 1);
   return own.reduce((sum, word) => sum * 2 ** WORD_BITS + signed(word), 0);
+}
+
+// Writes a column's number: in octal, with a digit for each three bits, or as a decimal.
+function textOf(number, column) {
+  return column.kind === 'octal' ? octal(number, Math.ceil((column.high - column.low + 1) / 3)) : decimalOf(number, column);
 }
 
 // Writes number * p / b as the shortest decimal that is nearer to it than half a step, p / b: a value is that many steps.
@@ -69,7 +77,7 @@ function columnsOf([name, place, kind, scale, unit = '', ...more]) {
   if (!Object.hasOwn(KINDS, kind)) return `unknown kind ${kind}: ${Object.keys(KINDS).join(', ')}`;
   if (!/^[!-~]{0,16}$/.test(unit)) return `bad unit ${unit}: at most 16 characters`;
   const [words, bits] = KINDS[kind];
-  const worth = kind === 'bits' ? bitsOf(scale) : scaleOf(scale, bits);
+  const worth = hasBits(kind) ? bitsOf(scale) : scaleOf(scale, bits);
   if (typeof worth === 'string') return worth;
   const cells = words === 1 ? place : `${place} ${words}`;
   const column = { name, cells, kind, unit, first: 0, count: words, ...worth };
@@ -174,6 +182,6 @@ const quantityCells = () => [...new Set(quantities.rows.map(({ cells }) => cells
 function showValues(cells) {
   quantities.rows.forEach((column, i) => {
     const words = [cells[column.cells] ?? []].flat();
-    if (typeof words[0] === 'number') showChanged(find('quantity-rows').children[i].children[1], decimalOf(numberOf(words, column), column));
+    if (typeof words[0] === 'number') showChanged(find('quantity-rows').children[i].children[1], textOf(numberOf(words, column), column));
   });
 }
