@@ -201,13 +201,15 @@ BACK = "this address is before the end of the words above; addresses ascend in t
 PAST = "past the last place of fixed memory, 36864 words"
 UNKNOWN = "no line shows whether addresses count words or bytes: write BB,AAAA"
 ODD = "the addresses count bytes, and this one is odd"
+REPEATED = "* stands for lines that od or hexdump left out: make the text again with -v"
+RETURN = "a carriage return without a line feed: end each line with a line feed"
 
 # The radix, the text, and the fault: line, column, message.
 FAULTS = [
     ("octal", "12345 1234x\n", 1, 11, NO_DIGIT),
     ("octal", "\n12345\n 12385\n", 3, 5, NO_DIGIT),
-    ("octal", "12345\n*\n", 2, 1, NO_DIGIT),
-    ("octal", "12345\r12345\n", 1, 6, NO_DIGIT),
+    ("octal", "12345\n*\n", 2, 1, REPEATED),
+    ("octal", "12345\r12345\n", 1, 6, RETURN),
     ("octal", "\u00e9", 1, 1, NO_DIGIT),
     ("hex", "# g\n0000: 12g4\n", 2, 9, NO_HEX),
     ("octal", "1234\n", 1, 1, NO_WORD),

@@ -95,7 +95,10 @@ where
         };
         file.remark_fault(rt.alloc(), remarks);
         match dump {
-            Ok(dump) => push_dump(&mut dumps, dump)?,
+            Ok(dump) => {
+                remark_form(rt.alloc(), dumps.len(), &dump, remarks);
+                push_dump(&mut dumps, dump)?
+            }
             Err(fault) => {
                 remark_dump(rt.alloc(), dumps.len(), remarks);
                 return Err(fault);
@@ -110,6 +113,29 @@ fn push_dump(dumps: &mut Vec<Dump>, dump: Dump) -> Result<(), AnalysisFault> {
         Ok(()) => Ok(()),
         Err(_) => Err(AnalysisFault::Refused(LoadFault::Memory)),
     }
+}
+
+/// Reports a dump in which more than one word in ten has wrong parity.
+fn remark_form<N: Write>(alloc: Global, index: usize, dump: &Dump, remarks: &mut N) {
+    let mut wrong = 0usize;
+    for word in &dump.words {
+        if dump.has_parity && is_bad_parity(*word) {
+            wrong = wrong.saturating_add(1);
+        }
+    }
+    if wrong > dump.words.len() / 10 {
+        if let Ok(text) = form_text(alloc, index) {
+            let _written = remarks.write_all(text.as_bytes());
+        }
+    }
+}
+
+fn form_text(alloc: Global, index: usize) -> Result<String, AllocError> {
+    let mut text = String::new(alloc);
+    text.push_str("agc-study: in dump ")?;
+    text.push_str(letter(index))?;
+    text.push_str(" more than one word in ten has wrong parity; agc-study check names its form\n")?;
+    Ok(text)
 }
 
 /// Returns the number of places that the longest dump has.

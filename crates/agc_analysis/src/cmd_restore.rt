@@ -309,7 +309,7 @@ fn write_patched<R: Read, T: Read, W: Write, E: Write, N: Write, P>(
 {
     match patched_rope(alloc, args, rope, patch) {
         Ok(made) => {
-            let _written = io.remarks.write_all(made.changes.as_bytes());
+            let _written = io.remarks.write_all(made.remarks.as_bytes());
             status_of(OK, write_in_full(&mut io.out, made.file.as_slice()))
         }
         Err(fault) => fault.report_to(&mut io.err),

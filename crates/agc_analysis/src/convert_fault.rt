@@ -4,6 +4,8 @@ ghost use Rattle.std.specs.Prelude.{◌≡◌, ◌⊎◌};
 use crate::fault::{AnalysisFault, FAULTY};
 use agc_dump::DumpFault;
 use agc_io::status_of;
+use agc_load::LoadFault;
+use agc_store::RopeFault;
 use std::io::Write;
 
 /// Why `convert` writes nothing.
@@ -13,6 +15,8 @@ pub(crate) enum ConvertFault {
     Refused(AnalysisFault),
     /// A fault of a text of numbers.
     Text(DumpFault),
+    /// A fault of the rope that a text of numbers has.
+    OfText(RopeFault),
 }
 
 impl ConvertFault {
@@ -23,6 +27,17 @@ impl ConvertFault {
         match self {
             ConvertFault::Refused(fault) => fault.report_to(err),
             ConvertFault::Text(fault) => status_of(FAULTY, writeln!(err, "agc-study: {fault}")),
+            ConvertFault::OfText(RopeFault::Memory) => {
+                AnalysisFault::Refused(LoadFault::Memory).report_to(err)
+            }
+            ConvertFault::OfText(fault) => {
+                let fault = LoadFault::Rope(fault);
+                let line = writeln!(
+                    err,
+                    "agc-study: {fault}; --ignore-parity writes a rope file, which agc-study check explains"
+                );
+                status_of(FAULTY, line)
+            }
         }
     }
 }

@@ -110,6 +110,7 @@ pub(crate) fn written_rope<R: Read>(
     let file = file_to_convert(alloc, args, reader)?;
     let rope = match convert_rope(alloc, args, file.as_slice()) {
         Ok(rope) => rope,
+        Err(fault) if args.from_text.is_some() => return Err(ConvertFault::OfText(fault)),
         Err(fault) => return Err(ConvertFault::Refused(refused(fault))),
     };
     let Some(radix) = args.to_text else {
@@ -169,8 +170,8 @@ fn read_dump_file<R: Read>(
 #[derive(Drop)]
 pub(crate) struct PatchedRope {
     pub file: Vec<u8>,
-    /// For `--banks`, how many words changed in each bank.
-    pub changes: String,
+    /// Whether the file may have another form, and for `--banks` how many words changed in each bank.
+    pub remarks: String,
 }
 
 /// Applies a patch to a rope file, or puts banks into it, and makes the sums of banks right. Returns the file, or the fault of
@@ -188,17 +189,17 @@ pub(crate) fn patched_rope<R: Read, T: Read>(
         Err(ReadError::Memory) => return Err(AnalysisFault::Refused(LoadFault::Memory)),
     };
     let words = file_words(alloc, file.as_slice()).map_err(no_memory)?;
+    let mut remarks = form_remark(alloc, args.form, words.as_slice()).map_err(no_memory)?;
     if args.banks.is_empty() {
         let patched = patched_words(alloc, args.form, words.as_slice(), bytes.as_slice())?;
         return Ok(PatchedRope {
             file: summed_file(alloc, args, patched)?,
-            changes: String::new(alloc),
+            remarks,
         });
     }
     let patched = words_with_banks(alloc, args, words.as_slice(), bytes.as_slice())?;
-    let mut changes = String::new(alloc);
     push_bank_changes(
-        &mut changes,
+        &mut remarks,
         args.form,
         words.as_slice(),
         patched.as_slice(),
@@ -206,8 +207,25 @@ pub(crate) fn patched_rope<R: Read, T: Read>(
     .map_err(no_memory)?;
     Ok(PatchedRope {
         file: summed_file(alloc, args, patched)?,
-        changes,
+        remarks,
     })
+}
+
+/// Returns a remark if words of a file in the classic form have a parity bit: in the form with parity its banks are in another
+/// order.
+fn form_remark(alloc: Global, form: RopeForm, words: &[u16]) -> Result<String, AllocError> {
+    let mut remark = String::new(alloc);
+    let mut with_bit = 0usize;
+    for word in words {
+        with_bit = with_bit.saturating_add(usize::from(*word % 2));
+    }
+    if form == RopeForm::Classic && with_bit > 0 {
+        writeln!(
+            remark,
+            "agc-study: {with_bit} words of the rope have a parity bit: if it has parity, give --form parity, whose banks are in another order"
+        )?;
+    }
+    Ok(remark)
 }
 
 /// Returns the words of a rope file with those of a patch.

@@ -33,10 +33,15 @@ pub fn push_findings(
         RopeForm::Parity => bad_words(alloc, words.as_slice())?,
     };
     let damage = damage_of(words.as_slice(), wrong.as_slice());
-    push_bad_words(alloc, text, &store, is_placed, wrong.as_slice(), damage)?;
     let is_settled = damage == Damage::Words && are_sums_right(&store);
-    let readings = score_readings(alloc, words.as_slice())?;
-    push_readings(text, form, is_placed, is_settled, readings.as_slice())?;
+    let scores = score_readings(alloc, words.as_slice())?;
+    let readings = readings_of(form, is_settled, scores.as_slice());
+    if damage == Damage::Words && readings.are_surely_others(is_placed) {
+        push_count_alone(text, wrong.len())?;
+    } else {
+        push_bad_words(alloc, text, &store, is_placed, wrong.as_slice(), damage)?;
+    }
+    push_readings(text, is_placed, readings)?;
     for bank in 0..FIXED_BANKS {
         if let Some(sum) = sum_in_bank(&store, bank) {
             push_sum(text, sum)?;
@@ -58,6 +63,16 @@ fn are_sums_right(store: &Store) -> bool {
         }
     }
     has_number
+}
+
+/// Appends the number of words with wrong parity of a file that has another reading: one bit of a word read wrongly repairs
+/// nothing.
+fn push_count_alone(text: &mut String, count: usize) -> Result<(), AllocError> {
+    if count == 0 {
+        return Ok(());
+    }
+    writeln!(text, "words with wrong parity: {count} (certain)")?;
+    text.push_str("    check prints repairs once the file is converted to the reading below\n")
 }
 
 /// Appends the words with wrong parity, each with its most plausible repairs.
@@ -133,35 +148,69 @@ fn push_bad_word(
     text.push_str("\n")
 }
 
-/// Appends how well the given form fits, and another reading if it fits better, unless the given one is settled by the
-/// sums of the banks.
-fn push_readings(
-    text: &mut String,
-    form: RopeForm,
-    is_placed: bool,
+/// How well the given form fits a file, and the reading that fits best.
+#[derive(Clone, Copy)]
+struct Readings {
+    given: Option<Score>,
+    best: Option<Score>,
+    /// Whether the sums of the banks settle that the given form is right.
     is_settled: bool,
-    scores: &[Score],
-) -> Result<(), AllocError> {
-    let mut given = None;
-    let mut best: Option<Score> = None;
-    for score in scores {
-        if is_of_form(*score, form) {
-            given = Some(*score);
-        }
-        if score.points > points(best) {
-            best = Some(*score);
+}
+
+impl Readings {
+    /// Returns the reading that fits better than the given form, if there is one.
+    fn better(self) -> Option<Score> {
+        let best = self.best?;
+        if best.points > points(self.given) && !self.is_settled {
+            Some(best)
+        } else {
+            None
         }
     }
-    let Some(given) = given else {
+
+    /// Returns whether the file surely has another reading than the given form.
+    fn are_surely_others(self, is_placed: bool) -> bool {
+        match self.better() {
+            Some(better) => is_placed && is_far_better(points(self.given), better),
+            None => false,
+        }
+    }
+}
+
+/// Returns how well the given form and the best reading fit.
+fn readings_of(form: RopeForm, is_settled: bool, scores: &[Score]) -> Readings {
+    let mut readings = Readings {
+        given: None,
+        best: None,
+        is_settled,
+    };
+    for score in scores {
+        if is_of_form(*score, form) {
+            readings.given = Some(*score);
+        }
+        if score.points > points(readings.best) {
+            readings.best = Some(*score);
+        }
+    }
+    readings
+}
+
+/// Returns whether a reading fits so much better than one with these points that this is sure.
+fn is_far_better(given: usize, best: Score) -> bool {
+    best.points > given.saturating_mul(2).saturating_add(8)
+}
+
+/// Appends how well the given form fits, and another reading if it fits better, unless the given one is settled by the
+/// sums of the banks.
+fn push_readings(text: &mut String, is_placed: bool, readings: Readings) -> Result<(), AllocError> {
+    let Some(given) = readings.given else {
         return Ok(());
     };
     push_score(text, given)?;
-    match best {
-        Some(best) if best.points > given.points && !is_settled => {
-            push_better(text, is_placed, given, best)
-        }
-        Some(_) => Ok(()),
-        None => text.push_str("    no reading looks like a program (likely)\n"),
+    match (readings.better(), readings.best) {
+        (Some(better), _) => push_better(text, is_placed, given, better),
+        (None, Some(_)) => Ok(()),
+        (None, None) => text.push_str("    no reading looks like a program (likely)\n"),
     }
 }
 
@@ -215,8 +264,7 @@ fn push_better(
     given: Score,
     best: Score,
 ) -> Result<(), AllocError> {
-    let twice = given.points.saturating_mul(2).saturating_add(8);
-    let sure = if is_placed && best.points > twice {
+    let sure = if is_placed && is_far_better(given.points, best) {
         "sure"
     } else {
         "likely"

@@ -55,7 +55,7 @@ pub(crate) fn dump_line(
         rest: text,
     };
     if let Some(end) = from_other_character(radix, text) {
-        return Err(whole.fault_at(end, DumpLineFault::Character(radix)));
+        return Err(whole.fault_at(end, character_fault(radix, end)));
     }
     let Some((first, rest)) = next_word(text) else {
         return Ok(whole);
@@ -93,6 +93,15 @@ fn from_other_character(radix: Radix, text: &[u8]) -> Option<&[u8]> {
         .iter()
         .position(|byte| digit_of(radix, *byte).is_none() && !is_mark(*byte))?;
     text.get(at..)
+}
+
+/// Returns the fault of a text that begins with a byte that may not stand in a line.
+fn character_fault(radix: Radix, text: &[u8]) -> DumpLineFault {
+    match text {
+        [b'*', ..] => DumpLineFault::Repeated,
+        [b'\r', ..] => DumpLineFault::Return,
+        _ => DumpLineFault::Character(radix),
+    }
 }
 
 /// Returns a text from its first word on.

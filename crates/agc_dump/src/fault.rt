@@ -23,6 +23,10 @@ pub enum DumpFault {
 pub enum DumpLineFault {
     /// A character that is no digit of the radix, blank, colon or comma.
     Character(Radix),
+    /// `*`, with which od and hexdump stand for repeated lines.
+    Repeated,
+    /// A carriage return that no line feed follows.
+    Return,
     /// A number that is no word.
     NoWord(Radix),
     /// A word that is written in another way than those before it.
@@ -72,6 +76,12 @@ fn text_of(fault: DumpLineFault) -> &'static str {
         }
         DumpLineFault::Character(Radix::Hex) => {
             "no hexadecimal digit, blank, colon or comma; # or ; begins a comment"
+        }
+        DumpLineFault::Repeated => {
+            "* stands for lines that od or hexdump left out: make the text again with -v"
+        }
+        DumpLineFault::Return => {
+            "a carriage return without a line feed: end each line with a line feed"
         }
         DumpLineFault::NoWord(Radix::Octal) => {
             "no word: five octal digits, perhaps a parity bit behind them, or six up to 177777"

@@ -17,6 +17,7 @@ pub fn words_of_text(
     order: RopeForm,
     text: &[u8],
 ) -> Result<Vec<u16>, DumpFault> {
+    let text = without_byte_order_mark(text);
     let unit = unit_of(alloc, radix, text)?;
     let mut words = Vec::new(alloc);
     let mut shape = None;
@@ -34,6 +35,14 @@ pub fn words_of_text(
         return Err(DumpFault::Empty);
     }
     Ok(words)
+}
+
+/// Returns a text without the three bytes with which some editors mark UTF-8.
+fn without_byte_order_mark(text: &[u8]) -> &[u8] {
+    match text {
+        [0xEF, 0xBB, 0xBF, rest @ ..] => rest,
+        _ => text,
+    }
 }
 
 /// Appends 16 bits 0 for each place that the address of a line skips.

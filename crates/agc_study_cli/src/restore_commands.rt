@@ -112,6 +112,7 @@ static REPAIR: Subcommand = Subcommand {
         Parameter {
             id: "stuck",
             help: "Print only the repairs of words where a bit is stuck, by that bit, as check finds them",
+            excludes: &["most"],
             ..FLAG
         },
         Parameter {
