@@ -16,6 +16,7 @@ const WAKE = 8; // milliseconds between two pieces
 const NEWS = 0.02; // seconds between two looks at least,
 const NEWS_FAST = 0.04; // and if time goes this many times as fast as the hardware:
 const FAST = 100;
+const ECHO = 0.1; // seconds after a key in which each piece of the clock's work is shown, so that the lamp lights soon
 const AT_ONCE = 500; // events that the console gets in one text
 const LONGEST_STEP = 1000000; // cycles that `over` and `finish` may take
 const FULL = 'Time stops: the script is full, with 65,536 events. Going back makes room.';
@@ -44,6 +45,7 @@ export class Machine {
   #replayed = []; // events that are given once more, in their order
   #lastChange = null; // the last panel change that was looked for
   #looked = 0;
+  #pressed = -ECHO; // when a key was given to the machine last
   #turn = Promise.resolve();
   #channel = new MessageChannel();
 
@@ -414,6 +416,7 @@ export class Machine {
     const name = this.#keyboard.waiting[0];
     try {
       await this.#keyboard.pressNext(this.#console);
+      this.#pressed = seconds();
     } catch (error) {
       if (!(error instanceof Refused)) throw error;
       this.#keyboard.waiting = [];
@@ -540,7 +543,12 @@ export class Machine {
   }
 
   async #lookIfDue() {
-    if (this.playing && seconds() - this.#looked >= (this.#clock.speed < FAST ? NEWS : NEWS_FAST)) await this.#look();
+    if (this.playing && seconds() - this.#looked >= this.#newsAfter()) await this.#look();
+  }
+
+  #newsAfter() {
+    if (this.#clock.speed >= FAST) return NEWS_FAST;
+    return seconds() - this.#pressed < ECHO ? 0 : NEWS;
   }
 
   // Looks at the machine, and publishes what it shows.
