@@ -186,6 +186,49 @@ def try_words():
     page.close()
 
 
+LOOKS = """(async () => {
+  const { news } = page;
+  let looks = [];
+  page.news = (parts) => { looks.push(performance.now()); news(parts); };
+  let most = 0;
+  for (let i = 0; i < 30 && most < ENOUGH; i += 1) {
+    await new Promise((done) => { setTimeout(done, 200); });
+    looks = [];
+    const start = performance.now();
+    await ask('key', { name: '1' });
+    await new Promise((done) => { setTimeout(done, 150); });
+    most = Math.max(most, looks.filter((time) => time < start + 100).length);
+  }
+  page.news = news;
+  return most;
+})()"""
+
+GONE = """(async () => {
+  const wanted = [];
+  const real = ask;
+  ask = (what, { cycle }) => new Promise((done) => { setTimeout(() => { wanted.push(cycle); done(true); }, 50); });
+  const far = now.cycle + 1000000;
+  const first = goExactly(far);
+  await new Promise((done) => { setTimeout(done, 10); });
+  const second = goExactly(0);
+  const done = [await first, await second];
+  ask = real;
+  return [...wanted.map((cycle) => cycle === far), ...done];
+})()"""
+
+
+def try_echo():
+    """After a key each piece of the clock's work is shown: eight looks and more in a tenth of a second, where there are six at most
+    otherwise. Of two cycles that are wanted one after the other the second counts."""
+    page = LocalPage(LocalSite(example('keys', 'rope')))
+    page.type('Space')
+    page.state('running')
+    judge('looks in a tenth of a second after a key', True, page.value(LOOKS.replace('ENOUGH', '8')) >= 8)
+    page.pause()
+    judge('the first cycle is wanted once', [True, False, False, True], page.value(GONE))
+    page.close()
+
+
 class OldPage(LocalPage):
     """The page in a browser that lacks something."""
 
@@ -238,7 +281,7 @@ def try_firefox():
 # Those that take longest come first.
 TRIES = (
     *figures.TRIES, *exercises.TRIES, *twins.TRIES, *flights.TRIES, *source.TRIES, *plotted.TRIES, *randoms.TRIES, *opening.TRIES, *caused.TRIES, web.try_sizes,
-    *(listing.TRIES if source.HAS_ASSEMBLER else ()), web.try_changes, web.try_stop, try_session, try_example, try_words, try_old,
+    *(listing.TRIES if source.HAS_ASSEMBLER else ()), web.try_changes, web.try_stop, try_session, try_example, try_words, try_echo, try_old,
     try_made, try_packed, try_letters,
 )
 

@@ -256,9 +256,14 @@ async function showAlarmLine() {
   bringIntoView(find('listing-cause'));
 }
 
-// Goes back to a cycle. A session with instruments may first go back to their tick before it.
+// Goes back to a cycle. A session with instruments may first go back to their tick before it; it then goes on to the cycle, unless
+// another one was wanted meanwhile. Returns whether it is there.
+let timesGone = 0;
 async function goExactly(cycle) {
-  return await ask('go', { cycle }) && (now.cycle >= cycle || ask('go', { cycle }));
+  timesGone += 1;
+  const turn = timesGone;
+  if (!await ask('go', { cycle })) return false;
+  return now.cycle >= cycle || (turn === timesGone && ask('go', { cycle }));
 }
 
 // Goes back by a boundary, over a call, or to the call of the routine: two quick clicks are two steps. What waits behind a step that
