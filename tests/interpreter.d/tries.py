@@ -15,6 +15,7 @@ import language
 import logs
 import orbits
 import run
+import traced
 from agc import Console
 from judge import CONSOLE, STUDY, attempt, check, finish, judge, near, scratch_folder
 from model import UNIT, Model, whole
@@ -23,6 +24,7 @@ from weaving import EXAMPLE, HERE, copied, read, sums_for, weave, woven_by_lines
 
 CELLS, BEGUN, SHOWN = 0o60, 0o55, 0o56  # the channels on which the driver writes
 MOST_CYCLES = 20_000_000  # more than all programs of a rope take
+MOST_TRACED = 400_000  # cycles of a rope that are traced
 WORKAREA, STATE = 0o200, 0o55  # the work area's address, and the first word of switches behind it
 SEED, CHAINS = int(os.environ.get("SEED", 1)), int(os.environ.get("CHAINS", 200))
 OLD = b"no order or directive has this name"
@@ -142,6 +144,42 @@ def try_chains():
     programs = list(chains.programs(random.Random(SEED), CHAINS))
     for n in range(0, CHAINS, 30):  # more may not fit into a rope
         in_both_halves(programs[n:n + 30], f"chains{n}")
+
+
+def try_traced():
+    """`trace --interpretive` prints each operation that a filter over the interpreter's cells finds, of each program."""
+    programs = [*cases.programs()[:300], *chains.programs(random.Random(SEED + 1), CHAINS)]
+    for n in range(0, len(programs), 30):  # more may not fit into a rope
+        half, banks = (("low", LOW_BANKS), ("high", HIGH_BANKS))[n // 30 % 2]
+        folder = os.path.join(scratch, f"traced{n}")
+        rope = woven(banks_full(programs[n:n + 30], banks), folder)
+        found = list(traced.operations(rope, MOST_TRACED, folder))
+        lines = traced.printed(rope, MOST_TRACED)
+        judge(f"{half} {n}: operations", len(found), len(lines))
+        check(f"{half} {n}: there are too few", len(found) > 100)
+        wrong = [(line, operation) for line, operation in zip(lines, found) if not traced.is_line_of(line, operation)]
+        judge(f"{half} {n}: the first line that is not its operation's", [], wrong[:1])
+
+
+def try_listed():
+    """With a listing each operation of main.agc has the line in which it is written, and a part of the run its operations alone."""
+    folder = copied(os.path.join(scratch, "listed"))
+    listing = os.path.join(folder, "listing")
+    rope = os.path.join(folder, "rope")
+    words = [STUDY, "weave", os.path.join(folder, "main.agc"), "--write-names", rope + ".names", "--write-listing", listing]
+    with open(rope, "wb") as file:
+        subprocess.run(words, stdout=file, check=True)
+    source = read("main.agc").splitlines()
+    lines = traced.printed(rope, 5000, "--listing", listing)
+    judge("main.agc has eight operations", 8, len(lines))
+    for line in lines:
+        operation, _, where = line.partition(" # ")
+        name, number, text = where.split(" ", 2)
+        judge("the file and the line", ("main.agc", source[int(number.rstrip(":")) - 1].split()), (name, text.split()))
+        check(f"{where} has {operation}", operation.split(" ")[2] in text.split())
+    plain = [line.partition(" # ")[0] for line in lines]
+    first, last = int(plain[2].split()[0]), int(plain[4].split()[0])
+    judge("a part", [*plain[2:4], plain[4].partition(" > ")[0] + " > - | " + plain[4].rpartition(" | ")[2]], traced.printed(rope, 5000, "--from", str(first), "--to", str(last)))
 
 
 def try_fixed_fixed():
@@ -286,7 +324,7 @@ def main():
     if sys.argv[1:] == ["logs"]:
         logs.make()
         sys.exit()
-    for each in (try_programs, try_chains, try_fixed_fixed, try_costs, try_rope, try_page, *orbits.TRIES, try_tutorial, try_law, logs.try_logs, try_unknown):
+    for each in (try_programs, try_chains, try_traced, try_listed, try_fixed_fixed, try_costs, try_rope, try_page, *orbits.TRIES, try_tutorial, try_law, logs.try_logs, try_unknown):
         if len(sys.argv) == 1 or each.__name__ in sys.argv[1:]:
             attempt(each)
     finish()

@@ -11,6 +11,7 @@ use crate::cmd_film::run_film;
 use crate::cmd_jobs::run_jobs;
 use crate::cmd_list::run_list;
 use crate::cmd_merge::run_merge;
+use crate::cmd_operations::run_operations;
 use crate::cmd_profile::run_profile;
 use crate::cmd_restore::{run_convert, run_patch, run_repair, run_sums};
 use crate::cmd_sample::run_sample;
@@ -30,6 +31,7 @@ use std::rt::Files;
 pub fn last_cycle(args: &Result<Args, ArgsFault>) -> u64 {
     match args {
         Ok(Args::Trace(args)) => args.options.limit.min(args.selection.to),
+        Ok(Args::Operations(args)) => args.options.limit.min(args.span.to),
         Ok(Args::Profile(args)) => args.options.limit.min(args.span.to),
         Ok(Args::Jobs(args)) => args.options.limit.min(args.span.to),
         Ok(Args::Sample(args)) => args.options.limit.min(args.span.to),
@@ -103,6 +105,7 @@ where
         Args::Weave(args) => run_weave(rt, args, io),
         Args::Check(args) => run_check(rt, args, io),
         Args::Trace(args) => run_trace(rt, args, io),
+        Args::Operations(args) => run_operations(rt, args, io),
         Args::Profile(args) => run_profile(rt, args, io),
         Args::Jobs(args) => run_jobs(rt, args, io),
         Args::Sample(args) => run_sample(rt, args, io),

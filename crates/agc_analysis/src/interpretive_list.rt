@@ -192,7 +192,7 @@ fn mistaken_line(alloc: Global, path: &str, number: u32, why: &str) -> ArgsFault
     }
 }
 
-fn mistaken(alloc: Global, option: &str, text: &str, why: &str) -> ArgsFault {
+pub(crate) fn mistaken(alloc: Global, option: &str, text: &str, why: &str) -> ArgsFault {
     match mistaken_text(alloc, option, text, why) {
         Ok(text) => ArgsFault::Command(text),
         Err(AllocError) => ArgsFault::Memory,

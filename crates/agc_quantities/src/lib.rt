@@ -28,4 +28,5 @@ pub use sent_list::{SentList, SentQuantity, list_at};
 pub use uplink::{UplinkTimes, key_sent, uplink_text};
 pub use words::{
     push_fault, push_heading, push_list_fault, push_list_heading, push_list_row, push_row,
+    push_value,
 };

@@ -7,4 +7,4 @@ mod row;
 
 pub use fault::{push_fault, push_list_fault};
 pub use list_row::{push_list_heading, push_list_row};
-pub use row::{push_heading, push_row};
+pub use row::{push_heading, push_row, push_value};

@@ -38,6 +38,9 @@ where
         Ok(Args::Trace(args)) => {
             sources_of_run(rt, PrintedLine::Trace, &args.files, &args.options, err)
         }
+        Ok(Args::Operations(args)) => {
+            sources_of_run(rt, PrintedLine::Trace, &args.files, &args.options, err)
+        }
         Ok(Args::Profile(args)) => {
             sources_of_run(rt, PrintedLine::Profile, &args.files, &args.options, err)
         }

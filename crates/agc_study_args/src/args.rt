@@ -15,6 +15,7 @@ pub enum Args {
     Weave(WeaveArgs),
     Check(CheckArgs),
     Trace(TraceArgs),
+    Operations(OperationsArgs),
     Profile(ProfileArgs),
     Jobs(JobsArgs),
     Sample(SampleArgs),
@@ -137,6 +138,19 @@ pub struct TraceArgs {
     pub names: Option<String>,
     /// How to print what operands held (`--operands`, `--decimal`); `None` if that is not printed.
     pub operands: Option<Notation>,
+}
+
+/// Arguments of `trace --interpretive`: a run whose operations of the interpretive language are printed.
+#[derive(Debug, Drop)]
+pub struct OperationsArgs {
+    pub files: RunFiles,
+    pub options: RunOptions,
+    /// The value of `--interpretive`: the interpreter's places and cells.
+    pub interpreter: String,
+    /// The range of cycles: operations that begin in it are printed.
+    pub span: Span,
+    /// The symbol file (`--names`).
+    pub names: Option<String>,
 }
 
 /// Arguments of `profile`: a run, and what to print about it.

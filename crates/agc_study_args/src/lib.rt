@@ -15,9 +15,9 @@ mod words_apart;
 
 pub use args::{
     Args, CheckArgs, CompareArgs, ConvertArgs, DownlinkArgs, DumpArgs, FilmArgs, JobsArgs,
-    ListArgs, ListStyle, MOST_DUMPS, MOST_MARKS, MergeArgs, Moved, NAME, ObservedArgs, PatchArgs,
-    ProfileArgs, RepairArgs, ReportArgs, RunOptions, SampleArgs, SampleTimes, SumsArgs, TraceArgs,
-    UplinkArgs, WeaveArgs, WordsArgs,
+    ListArgs, ListStyle, MOST_DUMPS, MOST_MARKS, MergeArgs, Moved, NAME, ObservedArgs,
+    OperationsArgs, PatchArgs, ProfileArgs, RepairArgs, ReportArgs, RunOptions, SampleArgs,
+    SampleTimes, SumsArgs, TraceArgs, UplinkArgs, WeaveArgs, WordsArgs,
 };
 pub use conversion::{ConvertedRope, convert_rope, dump_text, read_dump};
 pub use laws::{a_listed_operand_is_addressed, a_run_stops_at_the_resolved_location};

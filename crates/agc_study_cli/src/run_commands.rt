@@ -77,6 +77,15 @@ static TRACE: Subcommand = Subcommand {
             needs: "operands",
             ..FLAG
         },
+        Parameter {
+            id: "interpretive",
+            shown: "SPEC",
+            help: "Print operations of the interpretive language. SPEC has the interpreter's places and cells, octal or names: NEXTOP,FETCH,OPJUMP,LOC,MODE,MPAC,PUSHLOC",
+            excludes: &[
+                "only", "at", "order", "channel", "cell", "last", "operands", "decimal",
+            ],
+            ..VALUE
+        },
     ],
 };
 

@@ -12,8 +12,8 @@ use crate::values::{channel_names_of, channels_of, mistake, orders_of, span_of, 
 use agc_cli::{ArgsFault, form_of, mistake_of, path_of, text_of};
 use agc_load::RunFiles;
 use agc_study_args::{
-    Args, CheckArgs, CompareArgs, FilmArgs, ListArgs, ListStyle, NAME, ReportArgs, TraceArgs,
-    WeaveArgs,
+    Args, CheckArgs, CompareArgs, FilmArgs, ListArgs, ListStyle, NAME, OperationsArgs, ReportArgs,
+    TraceArgs, WeaveArgs,
 };
 use agc_trace::{Notation, Only, Selection, Span};
 use clap::{ArgMatches, Command};
@@ -207,6 +207,15 @@ fn report_of(alloc: Global, given: &ArgMatches<'_>) -> Result<Option<ReportArgs>
 }
 
 fn trace_args(alloc: Global, given: &ArgMatches<'_>) -> Result<Args, ArgsFault> {
+    if let Some(interpreter) = text_of(alloc, given, "interpretive")? {
+        return Ok(Args::Operations(OperationsArgs {
+            files: files_of(alloc, given)?,
+            options: options_of(alloc, given)?,
+            interpreter,
+            span: span_of(alloc, given)?,
+            names: text_of(alloc, given, "names")?,
+        }));
+    }
     Ok(Args::Trace(TraceArgs {
         files: files_of(alloc, given)?,
         options: options_of(alloc, given)?,

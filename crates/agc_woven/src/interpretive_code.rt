@@ -36,6 +36,51 @@ struct Named {
     operation: Operation,
 }
 
+/// The operations of a word.
+#[derive(Clone, Copy)]
+struct Pair {
+    left: Named,
+    right: Option<Named>,
+}
+
+/// The texts of the operations of a word, such as `DLOAD*`; a store has one, such as `STODL RATE`.
+#[derive(Drop)]
+pub struct Operations {
+    pub left: String,
+    pub right: Option<String>,
+}
+
+/// Returns the operations of the word at a place, which is no operand. That of a word that no rule of the language reads says so.
+pub fn operations_at(
+    alloc: Global,
+    store: &Store,
+    names: &Option<SymbolTable>,
+    place: usize,
+) -> Result<Operations, AllocError> {
+    let mut reader = Reader::new(store, names);
+    let bits = reader.bits_at(place);
+    let mut left = String::new(alloc);
+    let mut right = None;
+    if bits < 0o40000 {
+        reader.push_store(&mut left, bits)?;
+    } else if let Some(pair) = reader.pair_at(place, bits) {
+        push_name(&mut left, pair.left)?;
+        right = text_of(alloc, pair.right)?;
+    } else {
+        reader.push_unread(&mut left)?;
+    }
+    Ok(Operations { left, right })
+}
+
+fn text_of(alloc: Global, named: Option<Named>) -> Result<Option<String>, AllocError> {
+    let Some(named) = named else {
+        return Ok(None);
+    };
+    let mut text = String::new(alloc);
+    push_name(&mut text, named)?;
+    Ok(Some(text))
+}
+
 /// Returns a line for each word from the first place to the last: place, word, and what it is in the interpretive
 /// language. The first word is a pair of operations or a store.
 pub fn interpretive_lines(
@@ -135,22 +180,8 @@ impl<'a> Reader<'a> {
         if self.due.is_behind_stadr {
             return self.push_store(text, 0o77777 - bits);
         }
-        let Some((left, right)) = pair_in(bits) else {
+        let Some(Pair { left, right }) = self.pair_at(place, bits) else {
             return self.push_unread(text);
-        };
-        let Some(left) = self.named(left, place.saturating_add(1)) else {
-            return self.push_unread(text);
-        };
-        let behind = Pending::behind(left.operation, None);
-        let right = match right {
-            None => None,
-            Some(code) => {
-                let operand = place.saturating_add(1).saturating_add(count_of(&behind));
-                match self.named(code, operand) {
-                    Some(right) => Some(right),
-                    None => return self.push_unread(text),
-                }
-            }
         };
         self.has_exit = is_exit(left) || right.is_some_and(is_exit);
         push_name(text, left)?;
@@ -161,10 +192,26 @@ impl<'a> Reader<'a> {
                 push_name(text, right)
             }
             None => {
-                self.due = behind;
+                self.due = Pending::behind(left.operation, None);
                 Ok(())
             }
         }
+    }
+
+    /// Returns the operations of a word at a place, or `None` if no rule of the language reads it.
+    fn pair_at(&self, place: usize, bits: u16) -> Option<Pair>
+        requires { bits < 0o100000 }
+    {
+        let (left, right) = pair_in(bits)?;
+        let operand = place.saturating_add(1);
+        let left = self.named(left, operand)?;
+        let Some(code) = right else {
+            return Some(Pair { left, right: None });
+        };
+        let behind = Pending::behind(left.operation, None);
+        let right = self.named(code, operand.saturating_add(count_of(&behind)))?;
+        let right = Some(right);
+        Some(Pair { left, right })
     }
 
     fn push_unread(&mut self, text: &mut String) -> Result<(), AllocError> {

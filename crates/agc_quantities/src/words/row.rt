@@ -81,8 +81,19 @@ pub(crate) fn push_values(
     words: Words,
     shows_minus_zero: bool,
 ) -> Result<(), AllocError> {
-    let [first, second, third, fourth, fifth, sixth] = words;
     text.push_str(",")?;
+    push_value(text, kind, words, shows_minus_zero)
+}
+
+/// Appends the value of a quantity with these words: as many of the six as its kind has. Commas separate the three parts of a vector.
+/// `shows_minus_zero` prints zero as `-0` if its first word is -0.
+pub fn push_value(
+    text: &mut String,
+    kind: Kind,
+    words: Words,
+    shows_minus_zero: bool,
+) -> Result<(), AllocError> {
+    let [first, second, third, fourth, fifth, sixth] = words;
     match kind {
         Kind::Single(scale) => push_signed(text, &[first], step_of(scale, WORD), shows_minus_zero),
         Kind::Double(scale) => {

@@ -1,0 +1,300 @@
+//! Runs a rope and a script, and writes a line for each operation of its interpreter.
+ghost use Rattle.std.specs.Prelude.{IfErr};
+ghost use Rattle.agc_analysis.specs.Sampled.{KeepsIfRefused};
+
+use crate::interpreter::{Interpreter, Passing};
+use crate::traces::TraceError;
+use agc_io::{Progress, report_at, write_in_full};
+use agc_listing::{Cell, Location, location_in, push_rope_place};
+use agc_machine::{Machine, Stepped};
+use agc_quantities::{Kind, Scale, push_value};
+use agc_store::place::{ERASABLE_CELLS, FIXED_WORDS};
+use agc_store::{Addr, Store};
+use agc_study_args::{RunInputs, RunOptions, read_machine};
+use agc_symbols::SymbolTable;
+use agc_trace::{Span, TraceFault};
+use agc_word::Narrow;
+use agc_woven::{Operations, operations_at};
+use std::alloc::{AllocError, Global};
+use std::io::{Read, Write};
+
+/// The words of the accumulator are fractions.
+const FRACTION: Scale = Scale { worth: 1, parts: 1 };
+
+/// What is written of a run.
+#[derive(Drop)]
+pub(crate) struct OperationPlan {
+    pub interpreter: Interpreter,
+    /// The range of cycles: operations that begin in it are written.
+    pub span: Span,
+    /// The names of cells, for stores.
+    pub names: Option<SymbolTable>,
+}
+
+/// What the accumulator holds.
+#[derive(Clone, Copy)]
+struct Accumulator {
+    mode: Narrow,
+    words: [Narrow; 7],
+}
+
+/// An operation that has begun.
+#[derive(Drop)]
+struct Begun {
+    cycle: u64,
+    place: usize,
+    text: String,
+    before: Accumulator,
+    push_down: Narrow,
+}
+
+/// The right operation of the word in hand.
+#[derive(Drop)]
+struct Right {
+    place: usize,
+    text: String,
+}
+
+/// Follows the interpreter of a machine from place to place.
+#[derive(Drop)]
+struct Follower<'a> {
+    interpreter: Interpreter,
+    names: &'a Option<SymbolTable>,
+    /// The first cycle of the range.
+    from: u64,
+    /// The operation that has not ended.
+    begun: Option<Begun>,
+    /// The right operation that has not begun.
+    right: Option<Right>,
+    /// Whether a pair was fetched, and its left operation is about to pass where operations begin.
+    is_fetched: bool,
+}
+
+/// Reads a rope and a script, and writes the operations of their run. Returns the machine at the end of the run. Fails with
+/// the first fault, checked in this order: rope, script, limit, `--until`; or if memory runs out. Nothing is written in
+/// that case.
+pub(crate) fn operation_files<R: Read, W: Write, P: Progress>(
+    alloc: Global,
+    options: &RunOptions,
+    plan: &OperationPlan,
+    inputs: &mut RunInputs<R>,
+    out: &mut W,
+    progress: &mut P,
+) -> Result<Machine, TraceError>
+    ensures { IfErr result (KeepsIfRefused (W.contents out.old) (W.contents out.new)) }
+{
+    let mut machine = match read_machine(alloc, options, inputs) {
+        Ok(machine) => machine,
+        Err(refusal) => return Err(TraceError::Refused(refusal)),
+    };
+    match write_operations(alloc, plan, &mut machine, out, progress) {
+        Ok(()) => Ok(machine),
+        Err(fault) => Err(TraceError::Cut(fault)),
+    }
+}
+
+/// Writes each operation as it ends, so that memory does not grow with the run.
+fn write_operations<W: Write, P: Progress>(
+    alloc: Global,
+    plan: &OperationPlan,
+    machine: &mut Machine,
+    out: &mut W,
+    progress: &mut P,
+) -> Result<(), TraceFault> {
+    let (interpreter, span) = (plan.interpreter, plan.span);
+    let mut follower = Follower {
+        interpreter,
+        names: &plan.names,
+        from: span.from,
+        begun: None,
+        right: None,
+        is_fetched: false,
+    };
+    let mut text = String::new(alloc);
+    let mut mark = 0u64;
+    for _boundary in 0..u64::MAX {
+        if machine.cycle() > span.to {
+            break;
+        }
+        if let Some(passing) = interpreter.passing(machine.upcoming()) {
+            text.clear();
+            follower.pass(alloc, passing, machine, &mut text)?;
+            write_text(&text, out)?;
+        }
+        match machine.step(None) {
+            Stepped::Stopped(_) => break,
+            Stepped::Quiet | Stepped::Wrote(_) => {
+                mark = report_at(mark, machine.cycle(), progress);
+            }
+        }
+    }
+    text.clear();
+    follower.end(None, &mut text)?;
+    write_text(&text, out)
+}
+
+fn write_text<W: Write>(text: &String, out: &mut W) -> Result<(), TraceFault> {
+    match write_in_full(out, text.as_bytes()) {
+        Ok(()) => Ok(()),
+        Err(_) => Err(TraceFault::Write),
+    }
+}
+
+impl<'a> Follower<'a> {
+    /// Notes that the interpreter is at one of its places, and appends the line of an operation that has ended.
+    fn pass(
+        &mut self,
+        alloc: Global,
+        passing: Passing,
+        machine: &Machine,
+        text: &mut String,
+    ) -> Result<(), AllocError> {
+        match passing {
+            Passing::End => self.end(Some(machine.store()), text),
+            Passing::Fetch => {
+                self.end(Some(machine.store()), text)?;
+                self.fetch(alloc, machine, text)
+            }
+            Passing::Begin if self.is_fetched => {
+                self.is_fetched = false;
+                Ok(())
+            }
+            Passing::Begin => match self.right.take() {
+                Some(
+                    Right {
+                        place,
+                        text: operation,
+                    },
+                ) => {
+                    self.end(Some(machine.store()), text)?;
+                    self.begin(place, operation, machine, text)
+                }
+                None => Ok(()),
+            },
+        }
+    }
+
+    /// Takes the word in hand: its left operation, or its store, begins.
+    fn fetch(
+        &mut self,
+        alloc: Global,
+        machine: &Machine,
+        text: &mut String,
+    ) -> Result<(), AllocError> {
+        self.right = None;
+        self.is_fetched = false;
+        let store = machine.store();
+        let address = Addr::of_word(word_at(self.interpreter.word, store));
+        let place = match location_in(store, address) {
+            Location::Fixed(place) if place < FIXED_WORDS => place as usize,
+            _ => return Ok(()),
+        };
+        let Operations { left, right } = operations_at(alloc, store, self.names, place)?;
+        self.is_fetched = store.fixed_at(place).is_minus();
+        self.right = match right {
+            Some(text) => Some(Right { place, text }),
+            None => None,
+        };
+        self.begin(place, left, machine, text)
+    }
+
+    /// Notes that an operation begins. EXIT ends at once: basic orders come behind it.
+    fn begin(
+        &mut self,
+        place: usize,
+        operation: String,
+        machine: &Machine,
+        text: &mut String,
+    ) -> Result<(), AllocError> {
+        let store = machine.store();
+        let is_exit = operation.as_str() == "EXIT";
+        self.begun = Some(Begun {
+            cycle: machine.cycle(),
+            place,
+            text: operation,
+            before: accumulator_in(&self.interpreter, store),
+            push_down: word_at(self.interpreter.push_down, store),
+        });
+        if is_exit {
+            return self.end(Some(store), text);
+        }
+        Ok(())
+    }
+
+    /// Appends the line of the operation that has not ended, if there is one. It has ended if there is a memory now.
+    fn end(&mut self, store: Option<&Store>, text: &mut String) -> Result<(), AllocError> {
+        let Some(begun) = self.begun.take() else {
+            return Ok(());
+        };
+        if begun.cycle < self.from {
+            return Ok(());
+        }
+        push_begun(text, &begun)?;
+        match store {
+            Some(store) => push_accumulator(text, accumulator_in(&self.interpreter, store))?,
+            None => text.push_str("-")?,
+        }
+        let push_down = begun.push_down;
+        write!(text, " | {push_down}\n")
+    }
+}
+
+/// Appends where and when an operation began, what it is, and what the accumulator held.
+fn push_begun(text: &mut String, begun: &Begun) -> Result<(), AllocError> {
+    let cycle = begun.cycle;
+    write!(text, "{cycle} ")?;
+    push_rope_place(text, begun.place)?;
+    text.push_str(" ")?;
+    text.push_str(begun.text.as_str())?;
+    text.push_str(" | ")?;
+    push_accumulator(text, begun.before)?;
+    text.push_str(" > ")
+}
+
+/// Appends what the accumulator holds as fractions: a scalar, or the three parts of a vector.
+fn push_accumulator(text: &mut String, held: Accumulator) -> Result<(), AllocError> {
+    let [first, second, third, fourth, fifth, sixth, seventh] = held.words;
+    let (kind, words) = if held.mode.magnitude() == 0 {
+        (
+            Kind::Double(FRACTION),
+            [first, second, third, fourth, fifth, sixth],
+        )
+    } else if held.mode.is_minus() {
+        (
+            Kind::Vector(FRACTION),
+            [first, second, fourth, fifth, sixth, seventh],
+        )
+    } else {
+        (
+            Kind::Triple(FRACTION),
+            [first, second, third, fourth, fifth, sixth],
+        )
+    };
+    push_value(text, kind, words, true)
+}
+
+/// Reads the accumulator.
+fn accumulator_in(interpreter: &Interpreter, store: &Store) -> Accumulator {
+    let first = interpreter.mpac;
+    Accumulator {
+        mode: word_at(interpreter.mode, store),
+        words: [
+            word_at(first, store),
+            word_at(first.saturating_add(1), store),
+            word_at(first.saturating_add(2), store),
+            word_at(first.saturating_add(3), store),
+            word_at(first.saturating_add(4), store),
+            word_at(first.saturating_add(5), store),
+            word_at(first.saturating_add(6), store),
+        ],
+    }
+}
+
+/// Returns the word of the cell with this number; +0 if there is none.
+fn word_at(number: u16, store: &Store) -> Narrow {
+    if number < ERASABLE_CELLS {
+        Cell::new(number).word(store).narrow()
+    } else {
+        Narrow::PLUS_ZERO
+    }
+}
