@@ -1,12 +1,16 @@
 # shellcheck shell=bash disable=SC2154 # sourced by a launcher, which sets top (the repository) and name
-# Runs the program $name. On a terminal agc-console runs under rlwrap, if that is installed, for a prompt, line editing and
-# the completion of its words and of the names in --names, and agc-dsky by terminal.sh; without a terminal agc-dsky prints an error or its help.
+# Runs the program $name. On a terminal agc-console runs under console.py, for Control-C, and that under rlwrap, for a prompt,
+# line editing and the completion of its words and of the names in --names, if Python 3 and rlwrap are installed. One word, such as
+# --help, begins no session. agc-dsky runs by terminal.sh; without a terminal it prints an error or its help.
 # shellcheck source=launch/fit.sh
 . "$top/launch/fit.sh"
 ready || exit
 case $name in
 agc-console)
-    if [ -t 0 ] && [ -t 1 ] && command -v rlwrap >/dev/null; then
+    if [ -t 0 ] && [ -t 1 ] && [ $# -gt 1 ]; then
+        command=("$program")
+        ! python3 -I -c 'import ctypes' 2>/dev/null || command=(python3 -I "$top/launch/console.py" "$program" --terminal)
+        command -v rlwrap >/dev/null || exec "${command[@]}" "$@"
         completed=(--file "$top/launch/console.words")
         for ((each = 1; each <= $#; each++)); do
             case ${!each} in
@@ -17,7 +21,7 @@ agc-console)
             # rlwrap would refuse a file that the program is to refuse
             [ ! -f "$names" ] || [ ! -r "$names" ] || completed+=(--file "$names")
         done
-        exec rlwrap --substitute-prompt "$name> " "${completed[@]}" "$program" "$@"
+        exec rlwrap --substitute-prompt "$name> " "${completed[@]}" "${command[@]}" "$@"
     fi
     ;;
 agc-dsky)

@@ -11,6 +11,7 @@ import subprocess
 import sys
 import time
 
+import control_c
 from judge import AGC, CONSOLE, STUDY, TOP, attempt, depends_on_time, finish, judge, scratch_folder
 from notes import try_notes
 from places import try_places
@@ -496,6 +497,9 @@ if len(sys.argv) == 1:
     depends_on_time()
     try_odd_uses()
     attempt(try_terminal)
+    for kind in control_c.kinds():
+        attempt(control_c.try_session, *kind)
+        attempt(control_c.try_ends, *kind)
     try_save()
     try_full_script()
     try_full_breakpoints()

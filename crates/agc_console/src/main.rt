@@ -51,7 +51,8 @@ where
         Ok(opened) => opened,
         Err(status) => return status,
     };
-    let ended = if requested.notes.is_empty() && !out.is_terminal() {
+    let is_plain = !requested.terminal && !out.is_terminal() && requested.notes.is_empty();
+    let ended = if is_plain {
         answer_plainly(rt, session, &names, commands, out)
     } else {
         answer_with_notes(
@@ -63,6 +64,7 @@ where
             },
             commands,
             out,
+            requested.terminal,
         )
     };
     status_after(ended, err)
@@ -91,12 +93,13 @@ where
     )
 }
 
-/// Answers the commands with notes; on a terminal errors are sentences without names.
+/// Answers the commands with notes; on a terminal, or as on one, errors are sentences without names.
 fn answer_with_notes<R, C: Read + IsTerminal + Drop, W: Write + IsTerminal + Drop>(
     rt: &R,
     opened: Opened,
     commands: C,
     out: W,
+    as_on_terminal: bool,
 ) -> Result<(), ReplFault>
 where
     R: Files + AllocGlobal,
@@ -109,8 +112,8 @@ where
     let Ok(quantities) = QuantityCommands::new(rt.alloc(), &notes) else {
         return Err(ReplFault::Memory);
     };
-    let shows_sentences = out.is_terminal();
-    let is_terminal = shows_sentences && commands.is_terminal();
+    let shows_sentences = as_on_terminal || out.is_terminal();
+    let is_terminal = as_on_terminal || (shows_sentences && commands.is_terminal());
     let Ok(mut reader) = CommandReader::new(rt.alloc(), commands, quantities, is_terminal) else {
         return Err(ReplFault::Memory);
     };

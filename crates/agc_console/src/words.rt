@@ -2,7 +2,7 @@
 use agc_cli::{Args, ArgsFault, names_option, script_file, text_of, with_parameter};
 use agc_notes::NoteFiles;
 use agc_session::{SessionArgs, session_args, with_session_args};
-use clap::{Arg, ArgMatches, Command};
+use clap::{Arg, ArgAction, ArgMatches, Command};
 use std::alloc::{AllocError, Global};
 
 /// The arguments of the console.
@@ -13,6 +13,8 @@ pub struct Console {
     pub names: Option<String>,
     /// The paths of the files that notes come from.
     pub notes: NoteFiles,
+    /// Whether answers are those of a terminal, whatever the streams are.
+    pub terminal: bool,
 }
 
 impl Args for Console {
@@ -28,7 +30,8 @@ impl Args for Console {
         let command = with_parameter(command, names_option(alloc))?;
         let command = with_parameter(command, listing_option(alloc))?;
         let command = with_parameter(command, quantities_option(alloc))?;
-        with_parameter(command, nouns_option(alloc))
+        let command = with_parameter(command, nouns_option(alloc))?;
+        with_parameter(command, terminal_option(alloc))
     }
 
     fn from_matches(alloc: Global, matches: &ArgMatches<'_>) -> Result<Console, ArgsFault> {
@@ -43,6 +46,7 @@ impl Args for Console {
             start,
             names,
             notes,
+            terminal: matches.get_flag("terminal"),
         })
     }
 }
@@ -71,4 +75,12 @@ fn nouns_option<'a>(alloc: Global) -> Arg<'a> {
         .long("nouns")
         .value_name("FILE")
         .help("Say behind the panel what it shows, by this file of verbs and nouns")
+}
+
+/// Returns the `--terminal` option.
+fn terminal_option<'a>(alloc: Global) -> Arg<'a> {
+    Arg::new(alloc, "terminal")
+        .long("terminal")
+        .action(ArgAction::SetTrue)
+        .help("Answer as at a terminal, also if input and output are none")
 }
