@@ -512,10 +512,10 @@ class Console:
         if not self._waits(command):
             self.passed += self._run(command)
 
-    def step(self, boundaries: int = 1) -> List[str]:
+    def step(self, boundaries: int = 1, *, cell: Optional[Place] = None) -> List[str]:
         """So many boundaries, each an order, an event, a timer's step or an interrupt. Returns their lines, as
-        `agc-study trace` prints them."""
-        return self.say(f"step {boundaries}").lines
+        `agc-study trace` prints them; with `cell`, only those of boundaries that change it, each with the cell's line after it."""
+        return self.say(f"step {boundaries}" + ("" if cell is None else f" cell {_place(cell)}")).lines
 
     def over(self, within: Optional[int] = None, *, job: Optional[Place] = None) -> Came:
         """Runs over the call that comes next, to the order behind it: one of three places, in a service of an interrupt only if the
@@ -528,26 +528,24 @@ class Console:
         return self._call("finish", job, within)
 
     def _call(self, step: str, job: Optional[Place], within: Optional[int]) -> Came:
-        bound = "" if within is None else f" within {within}"
-        answer = self.say(f"{_step_by_calls(step, job)}{bound}")
+        answer = self.say(_step_by_calls(step, job) + _limits(0, within))
         return Came("came yes" in answer.lines, _writes(answer.lines))
 
-    def until(self, place: Place, within: Optional[int] = None, *, condition: Optional[str] = None) -> Came:
+    def until(self, place: Place, within: Optional[int] = None, *, condition: Optional[str] = None, ignore: int = 0) -> Came:
         """Runs until the order at a place is in hand, with a condition such as "COUNT < 5" only while that holds; 1,000,000
-        cycles at most, or as many as are named."""
-        return self._until(_order(place, condition), within)
+        cycles at most, or as many as are named. With `ignore` it passes over so many hits, as the other runs to a hit do."""
+        return self._until(_order(place, condition), ignore, within)
 
-    def until_write(self, channel: int, within: Optional[int] = None) -> Came:
+    def until_write(self, channel: int, within: Optional[int] = None, *, ignore: int = 0) -> Came:
         """On until the next write to a channel, 5 to 0o777. Another channel is refused."""
-        return self._until(f"write {channel:o}", within)
+        return self._until(f"write {channel:o}", ignore, within)
 
-    def until_cell(self, place: Place, within: Optional[int] = None) -> Came:
+    def until_cell(self, place: Place, within: Optional[int] = None, *, ignore: int = 0) -> Came:
         """On until the next change of a cell."""
-        return self._until(f"cell {_place(place)}", within)
+        return self._until(f"cell {_place(place)}", ignore, within)
 
-    def _until(self, what: str, within: Optional[int]) -> Came:
-        bound = "" if within is None else f" within {within}"
-        answer = self.say(f"until {what}{bound}")
+    def _until(self, what: str, ignore: int, within: Optional[int]) -> Came:
+        answer = self.say(f"until {what}{_limits(ignore, within)}")
         return Came("came yes" in answer.lines, _writes(answer.lines))
 
     # breakpoints
@@ -588,10 +586,10 @@ class Console:
         number = breakpoint.number if isinstance(breakpoint, Breakpoint) else breakpoint
         self.say(f"delete {number}")
 
-    def continue_(self, within: Optional[int] = None) -> Hit:
+    def continue_(self, within: Optional[int] = None, *, ignore: int = 0) -> Hit:
         """Runs to the first breakpoint that is hit; 1,000,000 cycles at most, or as many as are named. It takes one boundary
-        at least, so that it leaves the place at which it stopped before."""
-        answer = self.say("continue" if within is None else f"continue within {within}")
+        at least, so that it leaves the place at which it stopped before. With `ignore` it passes over so many hits."""
+        answer = self.say(f"continue{_limits(ignore, within)}")
         hits = [line for line in answer.lines if line.startswith("hit ")]
         return Hit(None if hits == ["hit none"] else _breakpoint(hits[0]), _writes(answer.lines))
 
@@ -621,27 +619,27 @@ class Console:
         it returns their lines, as in `script`."""
         return self.say(f"back list {cycle}" if dropped else f"back {cycle}").lines
 
-    def back_until(self, place: Place, *, condition: Optional[str] = None) -> bool:
+    def back_until(self, place: Place, *, condition: Optional[str] = None, ignore: int = 0) -> bool:
         """Goes back to the last time that the order at a place was in hand, with a condition as for `break_at` while that held.
         The methods `back_until_..` and `back_step` drop the events injected after that cycle, and return whether there was one
-        before now; if not, they change nothing."""
-        return self._back(f"until {_order(place, condition)}")
+        before now; if not, they change nothing. With `ignore` they pass over so many hits."""
+        return self._back(f"until {_order(place, condition)}{_limits(ignore)}")
 
-    def back_until_write(self, channel: int, word: Optional[int] = None) -> bool:
+    def back_until_write(self, channel: int, word: Optional[int] = None, *, ignore: int = 0) -> bool:
         """Goes back to before the last write to a channel, 5 to 0o777, of this word if one is named."""
-        return self._back(_with_word(f"until write {channel:o}", word))
+        return self._back(_with_word(f"until write {channel:o}", word) + _limits(ignore))
 
-    def back_until_cell(self, place: Place) -> bool:
+    def back_until_cell(self, place: Place, *, ignore: int = 0) -> bool:
         """Goes back to before the last change of a cell."""
-        return self._back(f"until cell {_place(place)}")
+        return self._back(f"until cell {_place(place)}{_limits(ignore)}")
 
-    def back_until_interrupt(self, name: Optional[str] = None) -> bool:
+    def back_until_interrupt(self, name: Optional[str] = None, *, ignore: int = 0) -> bool:
         """Goes back to before the last interrupt was taken, or the last one of this name."""
-        return self._back("until interrupt" if name is None else f"until interrupt {name}")
+        return self._back(("until interrupt" if name is None else f"until interrupt {name}") + _limits(ignore))
 
-    def back_until_panel(self) -> bool:
+    def back_until_panel(self, *, ignore: int = 0) -> bool:
         """Goes back to before the last change of the panel."""
-        return self._back("until panel")
+        return self._back(f"until panel{_limits(ignore)}")
 
     def back_step(self, boundaries: int = 1) -> bool:
         """Goes back by this number of boundaries, or a little more: to the first boundary of the same cycle."""
@@ -847,6 +845,11 @@ def _refused(reason: str) -> Refused:
 def _place(place: Place) -> str:
     """A place as the console reads it."""
     return f"{place:04o}" if isinstance(place, int) else place
+
+
+def _limits(ignore: int, within: Optional[int] = None) -> str:
+    """The hits that a run passes over, and its most cycles, as far as they are not those of a run without them."""
+    return (f" ignore {ignore}" if ignore else "") + ("" if within is None else f" within {within}")
 
 
 def _order(place: Place, condition: Optional[str]) -> str:

@@ -184,6 +184,8 @@ def try_until():
     with example("timers", script=script_of("timers")) as agc:
         judge("until a cell changes", (Came(True, []), 647), (agc.until_cell("100"), agc.cycle))
         judge("what does not come", Came(False, []), agc.until("4100", within=0))
+        writes = [Write(654, 0o11, 1), Write(1508, 0o11, 2)]
+        judge("the second write", (Came(True, writes), 1510), (agc.until_write(0o11, ignore=1), agc.cycle))
     with example("division", limit=100, form="classic") as agc:
         judge("until the stop", Came(False, [Write(3, 0o10, 2)]), agc.until_write(0o11))
         judge("the stop", ("DivisionUndefined", 6), (agc.stop, agc.cycle))
@@ -359,6 +361,8 @@ def try_backwards():
         judge("by its address", (True, 170459), (agc.back_until(0o4066), agc.cycle))
         judge("back to an interrupt", (True, 170455), (agc.back_until_interrupt("T4RUPT"), agc.cycle))
         judge("and to the one before", (True, 85121), (agc.back_until_interrupt(), agc.cycle))
+        agc.go_to(170459)
+        judge("the same at once", (True, 85121), (agc.back_until_interrupt("T4RUPT", ignore=1), agc.cycle))
         judge("no such word was written", (False, 85121), (agc.back_until_write(0o10, 0o30003), agc.cycle))
         judge("back to the write of a word", (True, 11), (agc.back_until_write(0o10, 0o30033), agc.cycle))
         judge("nothing was written before", (False, 11), (agc.back_until_write(0o10), agc.cycle))

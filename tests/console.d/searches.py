@@ -2,6 +2,7 @@
 scripts. A slow filter over the lines of a trace decides where each command should end, and what it should print."""
 
 import functools
+import itertools
 import os
 import re
 import subprocess
@@ -251,15 +252,17 @@ class Reference:
         """Whether a run stops here: an order and an interrupt come next, the others have come."""
         return self.hits(what, self.at if what[0] in ("order", "interrupt", "caller") else self.at - 1)
 
-    def run(self, breakpoints, within, stops=False):
-        """Runs to the first breakpoint that is hit, and returns its number. With `stops` the step that finds the limit may hit, too."""
+    def run(self, breakpoints, within, ignored=0, stops=False):
+        """Runs to the first boundary that hits a breakpoint after so many ignored ones that do, and returns the breakpoint's number.
+        With `stops` the step that finds the limit may hit, too."""
         end = self.cycle + within
         while self.stop is None and self.cycle < end:
             if self.step().stop and not stops:
                 break
-            for number, what in sorted(breakpoints.items()):
-                if self.is_hit(what):
-                    return number
+            hit = next((number for number, what in sorted(breakpoints.items()) if self.is_hit(what)), None)
+            if hit is not None and not ignored:
+                return hit
+            ignored -= hit is not None
         return None
 
     def back(self, cycle):
@@ -274,9 +277,10 @@ class Reference:
         self.back(self.trace.lines[at].cycle)
         return []
 
-    def back_until(self, what):
-        """Goes back to the last line before now that hits."""
-        return self.back_to(next((at for at in reversed(range(self.at)) if self.hits(what, at)), None))
+    def back_until(self, what, ignored=0):
+        """Goes back to the last line before now that hits, after so many ignored ones that do."""
+        hits = (at for at in reversed(range(self.at)) if self.hits(what, at))
+        return self.back_to(next(itertools.islice(hits, ignored, None), None))
 
     def back_steps(self, count):
         """Goes back by so many boundaries. The step that only found the limit is one, too."""
@@ -296,22 +300,23 @@ class Reference:
     def answer(self, words):
         """The lines with which a command is to be answered, but for the last one; an error's name in place of them."""
         self.writes = []
-        first, rest = words[0], words[1:]
-        within = int(rest[-1]) if rest[-2:-1] == ["within"] else 1_000_000
+        rest, within = without_number(words[1:], "within", 1_000_000)
+        rest, ignored = without_number(rest, "ignore", 0)
+        first = words[0]
         if first == "step":
-            return self.steps(int(rest[0]) if rest else 1)
+            return self.steps(int(rest[0]) if rest else 1, *rest[2:])
         if first == "go":
             self.go(self.cycle + int(rest[0]))
             return self.writes
         if first == "until":
-            what = rest[:-2] if rest[0] in ("write", "cell") else ["order", *rest[:-2]]
-            came = self.run({1: what}, within)
+            what = rest if rest[0] in ("write", "cell") else ["order", *rest]
+            came = self.run({1: what}, within, ignored)
             return [*self.writes, "came yes" if came else "came no"]
         if first in ("over", "finish"):
             came = self.run({1: self.trace.calls.ahead(first, self.at, "job" in rest)}, within, stops=True)
             return [*self.writes, "came yes" if came else "came no"]
         if first == "continue":
-            number = self.run(self.breaks, within)
+            number = self.run(self.breaks, within, ignored)
             return [*self.writes, "hit none" if number is None else f"hit {number} {self.text_of(self.breaks[number])}"]
         if first in ("break", "watch"):
             return self.set_break(kind_of(words))
@@ -331,12 +336,12 @@ class Reference:
         if first == "where":
             return self.where()
         if first == "back":
-            return self.go_back(rest)
+            return self.go_back(rest, ignored)
         raise ValueError(words)
 
-    def go_back(self, words):
+    def go_back(self, words, ignored):
         if words[0] == "until":
-            return self.back_until(kind_of(words))
+            return self.back_until(kind_of(words), ignored)
         if words[0] in ("over", "finish"):
             what = self.trace.calls.back(words[0], self.at, "job" in words)
             return self.back_steps(1) if what == ["boundary"] else self.back_until(what)
@@ -345,10 +350,16 @@ class Reference:
         self.back(int(words[0]))
         return []
 
-    def steps(self, count):
-        lines = []
-        while count > len(lines) and not (lines and self.next.stop and self.stop and lines[-1] == self.next.text):
-            lines.append(self.step().text)
+    def steps(self, count, place=None):
+        """The lines of so many boundaries, but of none after the stop; with a place, of those that change the cell, each with the cell."""
+        lines, line = [], None
+        while count and not (line and self.next.stop and self.stop and line.text == self.next.text):
+            before = self.at
+            line, count = self.step(), count - 1
+            if place is None:
+                lines.append(line.text)
+            elif self.trace.cell(place, before) != self.trace.cell(place, self.at):
+                lines += [line.text, f"cell {place_text(whole_place(place))} {self.trace.cell(place, self.at):05o}"]
         return lines
 
     def go(self, cycle):
@@ -376,6 +387,11 @@ class Reference:
         word = self.trace.cell(place, self.at)
         decimal = f"-{0o77777 - word}" if word & 0o40000 else str(word)
         return [f"print {place_text(whole_place(place))} {word:05o} {decimal}"]
+
+
+def without_number(words, name, number):
+    """The words without this name and the number behind it at their end, and that number, or this one if there is none."""
+    return (words[:-2], int(words[-1])) if words[-2:-1] == [name] else (words, number)
 
 
 def place_text(number):
@@ -480,17 +496,21 @@ class Choices:
     def a_call_step(self):
         return self.dice.choice(["over", "over", "finish"]) + self.dice.choice(["", f" job {JOB}"])
 
+    def ignored(self):
+        return self.dice.choice(["", "", f"ignore {self.dice.choice([0, 1, 2, 5, 20])} "])
+
     def a_run(self):
         """A command that runs the machine forwards."""
         within = f"within {self.dice.choice([0, 1, 10, 100, 800, 800])}"
+        limits = f"{self.ignored()}{within}"
         if self.by_calls and self.dice.random() < 0.7:
             return f"{self.a_call_step()} {self.dice.choice([within, 'within 800'])}"
         commands = [
-            f"go {self.dice.choice([0, 1, 2, 13, 200, 853])}", "step", f"step {self.dice.randrange(30)}",
-            f"until {self.an_order()} {within}", f"until {self.a_write().split(' ')[1]} {within}", f"until cell {self.a_cell()} {within}",
+            f"go {self.dice.choice([0, 1, 2, 13, 200, 853])}", "step", f"step {self.dice.randrange(30)}", f"step {self.dice.randrange(300)} cell {self.a_cell()}",
+            f"until {self.an_order()} {limits}", f"until {self.a_write().split(' ')[1]} {limits}", f"until cell {self.a_cell()} {limits}",
         ]
-        commands[4] = f"until write {commands[4][len('until ') :]}"
-        return self.dice.choice(commands) if self.dice.random() < 0.5 else f"continue {within}"
+        commands[5] = f"until write {commands[5][len('until ') :]}"
+        return self.dice.choice(commands) if self.dice.random() < 0.5 else f"continue {limits}"
 
     def a_search(self, cycle):
         """A command that goes back."""
@@ -498,7 +518,8 @@ class Choices:
         if self.by_calls and self.dice.random() < 0.7:
             return f"back {self.a_call_step()}"
         if kind < 6:
-            return f"back until {self.mostly([self.a_breakpoint()], ['interrupt', 'panel', 'panel'])}"
+            what = self.mostly([self.a_breakpoint()], ["interrupt", "panel", "panel"])
+            return f"back until {what} {self.ignored()}".rstrip()
         steps = self.dice.choice(["", f" {self.dice.randrange(1, 60)}", f" {self.dice.randrange(1, 2 * cycle + 2)}"])
         return f"back step{steps}" if kind < 8 else f"back {self.dice.randrange(cycle + 1)}"
 

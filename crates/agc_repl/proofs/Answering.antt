@@ -1,5 +1,5 @@
 -- How the parts of an answer make up the whole.
-use Rattle.std.specs.Prelude.{◌≡◌, ◌≢◌, ℕ, ◌+◌, ◌==◌, nat_le, Bool, true, false, List, [], ◌∷◌, ◌++◌, length, Option, None, Some, Result, Ok, Err, IfOk, IfSome, MatchResult, OnOk, IsErrOf, codes, flat_map, if◌then◌else◌}
+use Rattle.std.specs.Prelude.{◌≡◌, ◌≢◌, ℕ, ◌+◌, ◌==◌, nat_le, Bool, true, false, List, [], ◌∷◌, ◌++◌, length, Option, None, Some, Result, Ok, Err, IfOk, IfSome, MatchResult, OnOk, IsErrOf, codes, if◌then◌else◌}
 use Rattle.std.specs.Io.KnownBytes.{Appends, append_known}
 use Rattle.std.proofs.Common.{refl, ap, sym, subst, ◌∙◌, inl, inr}
 use Rattle.std.proofs.KnownBytes.{Appends-trans}
@@ -7,6 +7,9 @@ use Rattle.std.proofs.lemmas.Bool.{eq-eqb, eqb-true}
 use Rattle.agc_repl.specs.Fault.{fault_text_with}
 use Rattle.agc_repl.specs.declared.command.Command.{Command}
 use Rattle.agc_repl.specs.declared.command.Command.TheVariants as command
+use Rattle.agc_repl.specs.declared.command.Limits.{Limits}
+use Rattle.agc_repl.specs.declared.command.Steps.{Steps}
+use Rattle.agc_repl.specs.Changes.{step_text}
 use Rattle.agc_repl.specs.declared.command.Rewind.{Rewind}
 use Rattle.agc_repl.specs.declared.fault.CommandFault.{CommandFault}
 use Rattle.agc_repl.specs.Command.{IsBreakpointInRange, IsCommandInRange}
@@ -17,10 +20,8 @@ use Rattle.agc_session.specs.Session.{injected_now}
 use Rattle.agc_session.specs.declared.condition.Condition.{Condition}
 use Rattle.agc_session.specs.declared.fault.InjectFault.{InjectFault}
 use Rattle.agc_session.specs.declared.fault.InjectFault.TheVariants as fault
-use Rattle.agc_trace.specs.NamedLine.{line_with}
-use Rattle.agc_trace.specs.Trace.{trace_within}
 use Rattle.agc_repl.specs.Answer.{error_line}
-use Rattle.agc_repl.specs.Answered.{Answer, Begins, GoesBack, IsAnswered, IsLeft, IsPartOf, IsPlain, IsPlainRequest, Request, RunsOut, Sets, Outputs, ahead_text, answer_to, answered, back_answer, break_answer, breakpoint_set, cycles_on, delete_answer, done, dropped_text, ended, full_text, given_answer, last_line, missing_text, quiet_answer, refusal_text, refused_by, shown_continue, shown_run, shown_until, went_back}
+use Rattle.agc_repl.specs.Answered.{Answer, Begins, GoesBack, IsAnswered, IsLeft, IsPartOf, IsPlain, IsPlainRequest, Request, RunsOut, Sets, Outputs, ahead_text, answer_to, answered, back_answer, break_answer, breakpoint_set, cycles_on, delete_answer, done, dropped_text, ended, full_text, given_answer, last_line, limited_run, missing_text, quiet_answer, refusal_text, refused_by, shown_continue, shown_run, shown_until, went_back}
 use Rattle.agc_repl.specs.Queries.{shown_text}
 use Rattle.agc_repl.specs.Settings.{breakpoint_line, has_number, is_full, next_numbered, with_breakpoint, without_number}
 use Rattle.agc_repl.specs.Repl.{after_boundaries, after_due, all_armed, gone_back, run_of, takes_event}
@@ -128,9 +129,9 @@ ran_out names request s t none a b c left e h k =
 pub left_nothing : (request : Request) (s : Repl) → IsLeft request s s
 left_nothing (Ok (Some (command.Go cycles))) s = stays_run s
 left_nothing (Ok (Some (command.GoTo cycle))) s = stays_run s
-left_nothing (Ok (Some (command.Step boundaries))) s = stays_run s
-left_nothing (Ok (Some (command.Until what within))) s = stays_run s
-left_nothing (Ok (Some (command.Continue within))) s = stays_run s
+left_nothing (Ok (Some (command.Step steps))) s = stays_run s
+left_nothing (Ok (Some (command.Until what limits))) s = stays_run s
+left_nothing (Ok (Some (command.Continue limits))) s = stays_run s
 left_nothing (Ok (Some (command.Inject what))) s = inl refl
 left_nothing (Ok (Some c)) s = refl
 left_nothing (Ok None) s = refl
@@ -149,43 +150,43 @@ pub done_to : (names : Option (List Symbol)) (c : Command) (cycle : ℕ) (s : Re
 unfolding done
 done_to names c cycle s e = ap (λ (x : Command). done names x s) e
 
-pub done_step : (names : Option (List Symbol)) (c : Command) (boundaries : ℕ) (s : Repl) → c ≡ command.Step boundaries
-    → done names c s ≡ (after_boundaries boundaries s, flat_map (line_with names) (trace_within boundaries s.session.now))
+pub done_step : (names : Option (List Symbol)) (c : Command) (steps : Steps) (s : Repl) → c ≡ command.Step steps
+    → done names c s ≡ (after_boundaries steps.boundaries s, step_text names steps.cell steps.boundaries s.session.now)
 unfolding done
-done_step names c boundaries s e = ap (λ (x : Command). done names x s) e
+done_step names c steps s e = ap (λ (x : Command). done names x s) e
 
-pub done_until : (names : Option (List Symbol)) (c : Command) (what : Condition) (within : ℕ) (s : Repl) → c ≡ command.Until what within
-    → done names c s ≡ shown_until (run_of (armed_in s.session.now 0 what ∷ []) (cycles_on within s) s) s
+pub done_until : (names : Option (List Symbol)) (c : Command) (what : Condition) (limits : Limits) (s : Repl) → c ≡ command.Until what limits
+    → done names c s ≡ shown_until (limited_run limits (armed_in s.session.now 0 what ∷ []) s) s
 unfolding done
-done_until names c what within s e = ap (λ (x : Command). done names x s) e
+done_until names c what limits s e = ap (λ (x : Command). done names x s) e
 
 pub done_shown : (names : Option (List Symbol)) (c : Command) (s : Repl) → ((cycles : ℕ) → c ≡ command.Go cycles → ⊥) → ((cycle : ℕ) → c ≡ command.GoTo cycle → ⊥)
-    → ((boundaries : ℕ) → c ≡ command.Step boundaries → ⊥) → ((what : Condition) (within : ℕ) → c ≡ command.Until what within → ⊥)
-    → ((within : ℕ) → c ≡ command.Continue within → ⊥) → ((boundaries : ℕ) → c ≡ command.Ahead boundaries → ⊥) → done names c s ≡ (s, shown_text names c s)
+    → ((steps : Steps) → c ≡ command.Step steps → ⊥) → ((what : Condition) (limits : Limits) → c ≡ command.Until what limits → ⊥)
+    → ((limits : Limits) → c ≡ command.Continue limits → ⊥) → ((boundaries : ℕ) → c ≡ command.Ahead boundaries → ⊥) → done names c s ≡ (s, shown_text names c s)
 unfolding done
 done_shown names (command.Go cycles) s a b d e f g = absurd (a cycles refl)
 done_shown names (command.GoTo cycle) s a b d e f g = absurd (b cycle refl)
-done_shown names (command.Step boundaries) s a b d e f g = absurd (d boundaries refl)
-done_shown names (command.Until what within) s a b d e f g = absurd (e what within refl)
-done_shown names (command.Continue within) s a b d e f g = absurd (f within refl)
+done_shown names (command.Step steps) s a b d e f g = absurd (d steps refl)
+done_shown names (command.Until what limits) s a b d e f g = absurd (e what limits refl)
+done_shown names (command.Continue limits) s a b d e f g = absurd (f limits refl)
 done_shown names (command.Ahead boundaries) s a b d e f g = absurd (g boundaries refl)
 done_shown names c s a b d e f g = refl
 
 pub changes_nothing : (c : Command) (s : Repl) → IsPlain c → ((cycles : ℕ) → c ≡ command.Go cycles → ⊥) → ((cycle : ℕ) → c ≡ command.GoTo cycle → ⊥)
-    → ((boundaries : ℕ) → c ≡ command.Step boundaries → ⊥) → ((what : Condition) (within : ℕ) → c ≡ command.Until what within → ⊥)
-    → ((within : ℕ) → c ≡ command.Continue within → ⊥) → IsPartOf c s s
+    → ((steps : Steps) → c ≡ command.Step steps → ⊥) → ((what : Condition) (limits : Limits) → c ≡ command.Until what limits → ⊥)
+    → ((limits : Limits) → c ≡ command.Continue limits → ⊥) → IsPartOf c s s
 changes_nothing (command.Go cycles) s h a b d e f = absurd (a cycles refl)
 changes_nothing (command.GoTo cycle) s h a b d e f = absurd (b cycle refl)
-changes_nothing (command.Step boundaries) s h a b d e f = absurd (d boundaries refl)
-changes_nothing (command.Until what within) s h a b d e f = absurd (e what within refl)
-changes_nothing (command.Continue within) s h a b d e f = absurd (f within refl)
+changes_nothing (command.Step steps) s h a b d e f = absurd (d steps refl)
+changes_nothing (command.Until what limits) s h a b d e f = absurd (e what limits refl)
+changes_nothing (command.Continue limits) s h a b d e f = absurd (f limits refl)
 changes_nothing (command.Inject what) s h a b d e f = absurd h
 changes_nothing c s h a b d e f = refl
 
-pub done_continue : (names : Option (List Symbol)) (c : Command) (within : ℕ) (s : Repl) → c ≡ command.Continue within
-    → done names c s ≡ shown_continue (run_of (all_armed s) (cycles_on within s) s) s
+pub done_continue : (names : Option (List Symbol)) (c : Command) (limits : Limits) (s : Repl) → c ≡ command.Continue limits
+    → done names c s ≡ shown_continue (limited_run limits (all_armed s) s) s
 unfolding done
-done_continue names c within s e = ap (λ (x : Command). done names x s) e
+done_continue names c limits s e = ap (λ (x : Command). done names x s) e
 
 if_reached : (there : Bool) (x y : Answer) → there ≡ true → (if there then x else y) ≡ x
 if_reached there x y e = rw e refl

@@ -54,15 +54,19 @@ ahead_in_range step.Over cell s h = over_in_range cell s (upcoming_of s) h
 ahead_in_range step.Finish cell s h = caller_in_range cell s _ _ h
 
 pub until_in_range : (what : Condition) (call : CallStep) (cell : Option ℕ) (s : State) (within : ℕ) → what ≡ ahead call cell s → IsJobCell cell → within ≤ last_cycle
-    → IsCommandInRange (command.Until what within)
+    → IsCommandInRange (command.Until what (record { ignore = 0; within = within }))
 unfolding IsCommandInRange
 until_in_range what call cell s within e h k = (subst IsBreakpointInRange (sym e) (ahead_in_range call cell s h), k)
 
 pub call_handled : (names : Option (List Symbol)) (call : StepCall) (what : Condition) (s t : Repl) (old new : Option (List ℕ))
-    → what ≡ ahead call.step call.job s.session.now → IsAnswered names (Ok (Some (command.Until what call.within))) s t old new
+    → what ≡ ahead call.step call.job s.session.now → IsAnswered names (Ok (Some (command.Until what (record { ignore = 0; within = call.within })))) s t old new
     → IsHandled names (Ok (Some (command.StepCall call))) s t old new
 call_handled names call what s t old new e h =
-    inl (Ok (Some (command.Until what call.within)), ap (λ (w : Condition). Ok (Some (command.Until w call.within))) e, h)
+    inl (
+      Ok (Some (command.Until what (record { ignore = 0; within = call.within }))),
+      ap (λ (w : Condition). Ok (Some (command.Until w (record { ignore = 0; within = call.within })))) e,
+      h,
+    )
 
 -- a search back that a step back by calls means
 searched : (names : Option (List Symbol)) (call : BackCall) (s t : Repl) (old new : Option (List ℕ))

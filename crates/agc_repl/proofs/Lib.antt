@@ -14,3 +14,4 @@ pub mod Stepping
 pub mod Telling
 pub mod Runs
 pub mod Backwards
+pub mod Past

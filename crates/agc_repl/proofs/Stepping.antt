@@ -1,5 +1,5 @@
 -- The trace lines of some boundaries, one after another.
-use Rattle.std.specs.Prelude.{◌≡◌, ℕ, zero, suc, List, [], ◌∷◌, ◌++◌, Option, None, Some, IsSome, replicate, true, false, flat_map}
+use Rattle.std.specs.Prelude.{◌≡◌, ℕ, zero, suc, List, [], ◌∷◌, ◌++◌, Option, None, Some, IsSome, replicate, Bool, true, false, flat_map, if◌then◌else◌}
 use Rattle.std.specs.Io.KnownBytes.{Appends}
 use Rattle.std.proofs.Common.{refl, ap, sym, subst, ◌∙◌, append_assoc, append-nil}
 use Rattle.std.proofs.KnownBytes.{Appends-trans}
@@ -19,56 +19,69 @@ use Rattle.agc_trace.specs.Trace.{is_stop, trace_within}
 use Rattle.agc_trace.specs.declared.entry.Entry.{Entry}
 use Rattle.agc_trace.proofs.Lines.{IsWritten, nothing_written}
 use Rattle.agc_trace.proofs.Steps.{rest_ends, rest_goes_on, reported_by}
+use Rattle.agc_repl.specs.Changes.{boundary_text, changes_text, step_text}
 use Rattle.agc_repl.specs.Repl.{after_boundaries, after_chain, gone_on}
 use Rattle.agc_repl.specs.declared.repl.Repl.{Repl}
 use Rattle.agc_repl.proofs.Going.{gone_nowhere, gone_then}
 use Rattle.agc_symbols.specs.Symbols.{Symbol}
 
-abbrev pub lines : Option (List Symbol) → ℕ → State → List ℕ
-lines names n s = flat_map (line_with names) (trace_within n s)
+stops_here : (b : Bool) (more : List ℕ) → b ≡ true → (if b then [] else more) ≡ []
+stops_here b more e = rw e refl
 
-no_lines : (names : Option (List Symbol)) (s : State) → lines names zero s ≡ []
-unfolding trace_within
-no_lines names s = refl
+no_stop_here : (b : Bool) (more : List ℕ) → b ≡ false → (if b then [] else more) ≡ more
+no_stop_here b more e = rw e refl
 
-pub all_taken : (names : Option (List Symbol)) (n : ℕ) (s : State) → n ≡ zero → lines names n s ≡ []
-all_taken names n s e = rw e (no_lines names s)
+no_lines : (names : Option (List Symbol)) (cell : Option ℕ) (s : State) → step_text names cell zero s ≡ []
+unfolding trace_within changes_text
+no_lines names None s = refl
+no_lines names (Some cell) s = refl
 
-pub none_taken : (names : Option (List Symbol)) (n m : ℕ) (s : State) (known : Option (List ℕ)) → n ≡ m → IsWritten known known (lines names n s) (lines names m s)
-none_taken names n m s known e = rw e (nothing_written known (lines names m s))
+pub all_taken : (names : Option (List Symbol)) (cell : Option ℕ) (n : ℕ) (s : State) → n ≡ zero → step_text names cell n s ≡ []
+all_taken names cell n s e = rw e (no_lines names cell s)
+
+pub none_taken : (names : Option (List Symbol)) (cell : Option ℕ) (n m : ℕ) (s : State) (known : Option (List ℕ)) → n ≡ m
+    → IsWritten known known (step_text names cell n s) (step_text names cell m s)
+none_taken names cell n m s known e = rw e (nothing_written known (step_text names cell m s))
 
 -- the stop is the last
-lines_at_stop : (names : Option (List Symbol)) (n : ℕ) (s : State) (entry : Entry) → entry ≡ entry_of s → is_stop entry.happening ≡ true → lines names (suc n) s ≡ line_with names entry
-unfolding trace_within
-lines_at_stop names n s entry e stop =
-    ap (λ (more : List Entry). flat_map (line_with names) (entry_of s ∷ more)) (rest_ends (is_stop (upcoming_of s)) (trace_within n (boundary None s).0) (reported_by true s entry e stop))
-    ∙ append-nil (line_with names (entry_of s)) ∙ ap (line_with names) (sym e)
+lines_at_stop : (names : Option (List Symbol)) (cell : Option ℕ) (n : ℕ) (s : State) → is_stop (upcoming_of s) ≡ true
+    → step_text names cell (suc n) s ≡ boundary_text names cell s
+unfolding trace_within changes_text
+lines_at_stop names None n s e =
+    ap (λ (more : List Entry). flat_map (line_with names) (entry_of s ∷ more)) (rest_ends (is_stop (upcoming_of s)) (trace_within n (boundary None s).0) e)
+    ∙ append-nil (line_with names (entry_of s))
+lines_at_stop names (Some cell) n s e =
+    ap (λ (more : List ℕ). boundary_text names (Some cell) s ++ more) (stops_here (is_stop (upcoming_of s)) (changes_text names cell n (boundary None s).0) e)
+    ∙ append-nil (boundary_text names (Some cell) s)
 
-lines_go_on : (names : Option (List Symbol)) (n : ℕ) (s : State) (entry : Entry) → entry ≡ entry_of s → is_stop entry.happening ≡ false
-    → lines names (suc n) s ≡ line_with names entry ++ lines names n (boundary None s).0
-unfolding trace_within
-lines_go_on names n s entry e stop =
-    ap (λ (more : List Entry). flat_map (line_with names) (entry_of s ∷ more)) (rest_goes_on (is_stop (upcoming_of s)) (trace_within n (boundary None s).0) (reported_by false s entry e stop))
-    ∙ ap (λ (x : Entry). line_with names x ++ lines names n (boundary None s).0) (sym e)
+lines_go_on : (names : Option (List Symbol)) (cell : Option ℕ) (n : ℕ) (s : State) → is_stop (upcoming_of s) ≡ false
+    → step_text names cell (suc n) s ≡ boundary_text names cell s ++ step_text names cell n (boundary None s).0
+unfolding trace_within changes_text
+lines_go_on names None n s e =
+    ap (λ (more : List Entry). flat_map (line_with names) (entry_of s ∷ more)) (rest_goes_on (is_stop (upcoming_of s)) (trace_within n (boundary None s).0) e)
+lines_go_on names (Some cell) n s e =
+    ap (λ (more : List ℕ). boundary_text names (Some cell) s ++ more) (no_stop_here (is_stop (upcoming_of s)) (changes_text names cell n (boundary None s).0) e)
 
--- one more line is printed, and what remains is that of the boundaries after it
-pub one_parsed : (names : Option (List Symbol)) (m n : ℕ) (s t : State) (entry : Entry) (start now new : Option (List ℕ)) (whole : List ℕ) → m ≡ suc n → entry ≡ entry_of s
-    → t ≡ (boundary None s).0 → is_stop entry.happening ≡ false → IsWritten start now (lines names m s) whole → Appends now new (line_with names entry)
-    → IsWritten start new (lines names n t) whole
-one_parsed names m n s t entry start now new whole count e f stop h k =
-    let line = line_with names entry in
-    let next : lines names m s ≡ line ++ lines names n t =
-    ap (λ (boundaries : ℕ). lines names boundaries s) count ∙ lines_go_on names n s entry e stop
-    ∙ ap (λ (x : State). line_with names entry ++ lines names n x) (sym f) in
-    (h.0 ++ line, Appends-trans start now new h.0 line h.1 k, append_assoc h.0 line (lines names n t) ∙ ap (λ (xs : List ℕ). h.0 ++ xs) (sym next) ∙ h.2)
+-- the lines of one more boundary are printed, and what remains is that of the boundaries after it
+pub one_parsed : (names : Option (List Symbol)) (cell : Option ℕ) (m n : ℕ) (s t : State) (entry : Entry) (text : List ℕ) (start now new : Option (List ℕ)) (whole : List ℕ)
+    → m ≡ suc n → entry ≡ entry_of s → t ≡ (boundary None s).0 → is_stop entry.happening ≡ false → text ≡ boundary_text names cell s
+    → IsWritten start now (step_text names cell m s) whole → Appends now new text → IsWritten start new (step_text names cell n t) whole
+one_parsed names cell m n s t entry text start now new whole count e f stop g h k =
+    let next : step_text names cell m s ≡ text ++ step_text names cell n t =
+    ap (λ (boundaries : ℕ). step_text names cell boundaries s) count ∙ lines_go_on names cell n s (reported_by false s entry e stop)
+    ∙ ap (λ (x : List ℕ). x ++ step_text names cell n (boundary None s).0) (sym g)
+    ∙ ap (λ (x : State). text ++ step_text names cell n x) (sym f) in
+    (h.0 ++ text, Appends-trans start now new h.0 text h.1 k, append_assoc h.0 text (step_text names cell n t) ∙ ap (λ (xs : List ℕ). h.0 ++ xs) (sym next) ∙ h.2)
 
--- the line of the stop is printed
-pub stop_parsed : (names : Option (List Symbol)) (m n : ℕ) (s : State) (entry : Entry) (start now new : Option (List ℕ)) (whole : List ℕ) → m ≡ suc n → entry ≡ entry_of s
-    → is_stop entry.happening ≡ true → IsWritten start now (lines names m s) whole → Appends now new (line_with names entry) → Appends start new whole
-stop_parsed names m n s entry start now new whole count e stop h k =
-    let last : lines names m s ≡ line_with names entry = ap (λ (boundaries : ℕ). lines names boundaries s) count ∙ lines_at_stop names n s entry e stop in
+-- the lines of the stop are printed
+pub stop_parsed : (names : Option (List Symbol)) (cell : Option ℕ) (m n : ℕ) (s : State) (entry : Entry) (text : List ℕ) (start now new : Option (List ℕ)) (whole : List ℕ)
+    → m ≡ suc n → entry ≡ entry_of s → is_stop entry.happening ≡ true → text ≡ boundary_text names cell s
+    → IsWritten start now (step_text names cell m s) whole → Appends now new text → Appends start new whole
+stop_parsed names cell m n s entry text start now new whole count e stop g h k =
+    let last : step_text names cell m s ≡ text =
+    ap (λ (boundaries : ℕ). step_text names cell boundaries s) count ∙ lines_at_stop names cell n s (reported_by true s entry e stop) ∙ sym g in
     subst (Appends start new) (ap (λ (xs : List ℕ). h.0 ++ xs) (sym last) ∙ h.2)
-    (Appends-trans start now new h.0 (line_with names entry) h.1 k)
+    (Appends-trans start now new h.0 text h.1 k)
 
 -- where this many boundaries lead: a stop is the last one
 stops_then : (u : Upcoming) (s : State) → is_stop u ≡ true → IsSome (carried_out u s).0.stopped

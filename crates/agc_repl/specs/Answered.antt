@@ -4,6 +4,7 @@ use Rattle.std.specs.Io.KnownBytes.{Appends}
 use Rattle.agc_repl.specs.Fault.{fault_text_with}
 use Rattle.agc_repl.specs.declared.command.BackCall.{BackCall}
 use Rattle.agc_repl.specs.declared.command.Command.{Command}
+use Rattle.agc_repl.specs.declared.command.Limits.{Limits}
 use Rattle.agc_repl.specs.declared.command.Rewind.{Rewind}
 use Rattle.agc_repl.specs.declared.command.Search.{Search}
 use Rattle.agc_repl.specs.declared.command.StepCall.{StepCall}
@@ -16,16 +17,18 @@ use Rattle.agc_session.specs.Calls.{ahead, back}
 use Rattle.agc_session.specs.Condition.{IsFoundBack, armed_in}
 use Rattle.agc_session.specs.Session.{SessionState, discarded, injected_now}
 use Rattle.agc_script.specs.Written.{script_text}
+use Rattle.agc_session.specs.declared.condition.Armed.{Armed}
 use Rattle.agc_session.specs.declared.condition.Condition.{Condition}
 use Rattle.agc_session.specs.declared.condition.Condition.TheVariants as condition
 use Rattle.agc_session.specs.declared.fault.InjectFault.{InjectFault}
 use Rattle.agc_session.specs.declared.fault.InjectFault.TheVariants as fault
 use Rattle.agc_trace.specs.NamedLine.{line_with}
 use Rattle.agc_trace.specs.Trace.{trace_within}
+use Rattle.agc_repl.specs.Changes.{step_text}
 use Rattle.agc_repl.specs.Answer.{hit_line, end_line, error_line}
 use Rattle.agc_repl.specs.Queries.{shown_text}
 use Rattle.agc_repl.specs.Settings.{breakpoint_line, has_number, is_full, next_numbered, with_breakpoint, without_number}
-use Rattle.agc_repl.specs.Repl.{RunsOn, after_boundaries, after_due, after_run, all_armed, gone_back, run_of, takes_event}
+use Rattle.agc_repl.specs.Repl.{RunsOn, after_boundaries, after_due, after_run, all_armed, gone_back, run_of, run_past, takes_event}
 use Rattle.agc_repl.specs.Run.{Run, stop_line, writes_text}
 use Rattle.agc_repl.specs.declared.file_name.FileName.{FileName}
 use Rattle.agc_repl.specs.declared.repl.Repl.{Repl}
@@ -58,17 +61,20 @@ shown_until run t = (after_run run t, writes_text t.settings.quiet run.writes ++
 abbrev pub shown_continue : Run → Repl → Answer
 shown_continue run t = (after_run run t, writes_text t.settings.quiet run.writes ++ stop_line run.hit)
 
+-- a run past the hits to ignore, for the most cycles
+abbrev pub limited_run : Limits → List Armed → Repl → Run
+limited_run limits armed t = run_past limits.ignore armed (cycles_on limits.within t) t
+
 -- What a command does, and what it prints before the last line of its answer, unless it injects, goes back or changes
 -- the settings: one case each. Commands without a case show something and change nothing.
 unfoldable pub done : Option (List Symbol) → Command → Repl → Answer
 done names (command.Go cycles) t = shown_run (run_of [] (cycles_on cycles t) t) t
 done names (command.GoTo cycle) t = shown_run (run_of [] cycle t) t
-done names (command.Step boundaries) t =
-    (after_boundaries boundaries t, flat_map (line_with names) (trace_within boundaries t.session.now))
+done names (command.Step steps) t =
+    (after_boundaries steps.boundaries t, step_text names steps.cell steps.boundaries t.session.now)
 done names (command.Ahead boundaries) t = (t, flat_map (line_with names) (trace_within boundaries t.session.now))
-done names (command.Until what within) t =
-    shown_until (run_of (armed_in t.session.now 0 what ∷ []) (cycles_on within t) t) t
-done names (command.Continue within) t = shown_continue (run_of (all_armed t) (cycles_on within t) t) t
+done names (command.Until what limits) t = shown_until (limited_run limits (armed_in t.session.now 0 what ∷ []) t) t
+done names (command.Continue limits) t = shown_continue (limited_run limits (all_armed t) t) t
 done names shown t = (t, shown_text names shown t)
 
 -- why an event was not injected
@@ -162,7 +168,8 @@ request_saved name (Err why) = Err (invalid.NotSaved why)
 
 -- a step by calls as the run to the order at which it ends, and a step back by calls as the search for it
 abbrev pub call_request : StepCall → Repl → Request
-call_request step t = Ok (Some (command.Until (ahead step.step step.job t.session.now) step.within))
+call_request step t =
+    Ok (Some (command.Until (ahead step.step step.job t.session.now) (record { ignore = 0; within = step.within })))
 
 abbrev pub call_search : BackCall → Repl → Search
 call_search step t = record { what = back step.step step.job t.session.now; count = 1; lists = step.lists }
@@ -218,9 +225,9 @@ Begins whole old new = (parsed : List ℕ) × (rest : List ℕ) × Appends old n
 abbrev pub IsPartOf : Command → Repl → Repl → Type 0
 IsPartOf (command.Go cycles) s t = RunsOn s t
 IsPartOf (command.GoTo cycle) s t = RunsOn s t
-IsPartOf (command.Step boundaries) s t = RunsOn s t
-IsPartOf (command.Until what within) s t = RunsOn s t
-IsPartOf (command.Continue within) s t = RunsOn s t
+IsPartOf (command.Step steps) s t = RunsOn s t
+IsPartOf (command.Until what limits) s t = RunsOn s t
+IsPartOf (command.Continue limits) s t = RunsOn s t
 IsPartOf (command.Inject what) s t = (t ≡ s) ⊎ (t ≡ record s { session = after_due s.session })
 IsPartOf shown s t = t ≡ s
 

@@ -31,6 +31,7 @@ use Rattle.agc_repl.specs.Place.{cell_in, cells_after}
 use Rattle.agc_repl.specs.Words.{alone, and_then, only_word}
 use Rattle.agc_repl.specs.declared.command.Command.{Command}
 use Rattle.agc_repl.specs.declared.command.Command.TheVariants as command
+use Rattle.agc_repl.specs.declared.command.Limits.{Limits}
 use Rattle.agc_repl.specs.declared.fault.CommandFault.{CommandFault}
 use Rattle.agc_repl.specs.declared.fault.CommandFault.TheVariants as fault
 use Rattle.agc_repl.specs.declared.name.CommandName.{CommandName}
@@ -54,11 +55,21 @@ go_of (first ∷ words) =
     then and_then (only_cycles name.Go words) (λ cycle. Ok (command.GoTo cycle))
     else and_then (only_cycles name.Go (first ∷ words)) (λ cycles. Ok (command.Go cycles))
 
--- `step` and `step N`
-unfoldable pub step_of : List (List ℕ) → Result Command CommandFault
-step_of [] = Ok (command.Step 1)
-step_of (first ∷ words) =
-    and_then (only_cycles name.Step (first ∷ words)) (λ boundaries. Ok (command.Step boundaries))
+-- `cell PLACE` after the number of boundaries, or nothing
+unfoldable pub step_cell : Option (List Symbol) → List (List ℕ) → Result (Option ℕ) CommandFault
+step_cell names [] = Ok None
+step_cell names (first ∷ words) =
+    if bytes_eq first (codes "cell")
+    then and_then (and_then (only_word name.Step words) (cell_in names)) (λ cell. Ok (Some cell))
+    else Err (fault.Usage name.Step)
+
+-- `step`, `step N` and `step N cell PLACE`
+unfoldable pub step_of : Option (List Symbol) → List (List ℕ) → Result Command CommandFault
+step_of names [] = Ok (command.Step (record { boundaries = 1; cell = None }))
+step_of names (first ∷ words) =
+    and_then (cycles_in first)
+    (λ boundaries. and_then (step_cell names words)
+    (λ cell. Ok (command.Step (record { boundaries = boundaries; cell = cell }))))
 
 -- `ahead` and `ahead N`
 unfoldable pub ahead_of : List (List ℕ) → Result Command CommandFault
@@ -71,6 +82,26 @@ unfoldable pub within_of : CommandName → List (List ℕ) → Result ℕ Comman
 within_of n [] = Ok 1000000
 within_of n (first ∷ words) =
     if bytes_eq first (codes "within") then only_cycles n words else Err (fault.Usage n)
+
+-- `ignore N` at the beginning of some words, or 0, and the words after it
+abbrev pub ignored_number : CommandName → List (List ℕ) → Result ℕ CommandFault
+ignored_number n [] = Err (fault.Usage n)
+ignored_number n (number ∷ words) = cycles_in number
+
+unfoldable pub ignored_in : CommandName → List (List ℕ) → Result ℕ CommandFault
+ignored_in n [] = Ok 0
+ignored_in n (first ∷ words) = if bytes_eq first (codes "ignore") then ignored_number n words else Ok 0
+
+unfoldable pub after_ignored : List (List ℕ) → List (List ℕ)
+after_ignored [] = []
+after_ignored (first ∷ words) = if bytes_eq first (codes "ignore") then drop 1 words else first ∷ words
+
+-- `ignore N`, and `within N` after it
+unfoldable pub limits_of : CommandName → List (List ℕ) → Result Limits CommandFault
+limits_of n words =
+    and_then (ignored_in n words)
+    (λ ignore. and_then (within_of n (after_ignored words))
+    (λ within. Ok (record { ignore = ignore; within = within })))
 
 -- `job CELL` at the beginning of some words, and the words after it
 abbrev pub job_cell : Option (List Symbol) → CommandName → List (List ℕ) → Result (Option ℕ) CommandFault
@@ -93,7 +124,7 @@ call_of names n step words =
     (λ within. Ok (command.StepCall (record { step = step; job = job; within = within }))))
 
 unfoldable pub until_target : Condition → List (List ℕ) → Result Command CommandFault
-until_target what words = and_then (within_of name.Until words) (λ within. Ok (command.Until what within))
+until_target what words = and_then (limits_of name.Until words) (λ limits. Ok (command.Until what limits))
 
 -- `until write CCC`
 abbrev pub until_write : List (List ℕ) → Result Command CommandFault
@@ -173,10 +204,10 @@ break_of names (first ∷ words) =
 unfoldable pub delete_of : List (List ℕ) → Result Command CommandFault
 delete_of words = and_then (only_cycles name.Delete words) (λ number. Ok (command.Delete number))
 
--- `continue` and `continue within N`
+-- `continue`, `continue ignore N` and `continue within N`
 unfoldable pub continue_of : List (List ℕ) → Result Command CommandFault
 continue_of words =
-    and_then (within_of name.Continue words) (λ within. Ok (command.Continue within))
+    and_then (limits_of name.Continue words) (λ limits. Ok (command.Continue limits))
 
 -- `quiet` and `quiet off`
 unfoldable pub quiet_of : List (List ℕ) → Result Command CommandFault
@@ -224,9 +255,9 @@ channel_of words =
     and_then (and_then (only_word name.Channel words) channel_in)
     (λ channel. Ok (command.Channel channel))
 
--- a search for the last hit
-abbrev pub last_hit : Condition → Command
-last_hit what = command.BackTo (record { what = what; count = 1; lists = false })
+-- a search for the last hit before some that are passed over
+abbrev pub hit_past : ℕ → Condition → Command
+hit_past ignore what = command.BackTo (record { what = what; count = ignore + 1; lists = false })
 
 -- `back step` and `back step N`
 abbrev pub steps_back : ℕ → Result Command CommandFault
@@ -236,7 +267,7 @@ steps_back boundaries =
     else Ok (command.BackTo (record { what = condition.Boundary; count = boundaries; lists = false }))
 
 unfoldable pub back_step : List (List ℕ) → Result Command CommandFault
-back_step [] = Ok (last_hit condition.Boundary)
+back_step [] = Ok (hit_past 0 condition.Boundary)
 back_step (first ∷ words) = and_then (only_cycles name.Back (first ∷ words)) steps_back
 
 -- `back over` and `back finish`
@@ -245,12 +276,18 @@ back_call_of names step words =
     and_then (job_in names name.Back words)
     (λ job. alone (command.BackCall (record { step = step; job = job; lists = false })) name.Back (after_job words))
 
+-- the words after what a search looks for: `ignore N`, or none
+unfoldable pub back_target : Condition → List (List ℕ) → Result Command CommandFault
+back_target what words =
+    and_then (ignored_in name.Back words) (λ ignore. alone (hit_past ignore what) name.Back (after_ignored words))
+
 -- `back until write CCC` and `back until write CCC WORD`
 unfoldable pub back_write_of : ℕ → List (List ℕ) → Result Command CommandFault
-back_write_of channel [] = Ok (last_hit (condition.Write (Some channel) None))
+back_write_of channel [] = back_target (condition.Write (Some channel) None) []
 back_write_of channel (word ∷ words) =
-    and_then (word_in word)
-    (λ value. alone (last_hit (condition.Write (Some channel) (Some value))) name.Back words)
+    if bytes_eq word (codes "ignore")
+    then back_target (condition.Write (Some channel) None) (word ∷ words)
+    else and_then (word_in word) (λ value. back_target (condition.Write (Some channel) (Some value)) words)
 
 abbrev pub back_write : List (List ℕ) → Result Command CommandFault
 back_write [] = Err (fault.Usage name.Back)
@@ -259,20 +296,22 @@ back_write (channel ∷ words) =
 
 -- `back until cell PLACE`
 abbrev pub back_cell : Option (List Symbol) → List (List ℕ) → Result Command CommandFault
-back_cell names words =
-    and_then (and_then (only_word name.Back words) (cell_in names))
-    (λ cell. Ok (last_hit (condition.Cell cell)))
+back_cell names [] = Err (fault.Usage name.Back)
+back_cell names (place ∷ words) =
+    and_then (cell_in names place) (λ cell. back_target (condition.Cell cell) words)
 
 -- `back until interrupt` and `back until interrupt NAME`
 unfoldable pub back_interrupt : List (List ℕ) → Result Command CommandFault
-back_interrupt [] = Ok (last_hit (condition.Interrupt None))
+back_interrupt [] = back_target (condition.Interrupt None) []
 back_interrupt (first ∷ words) =
-    and_then (and_then (only_word name.Back (first ∷ words)) interrupt_in)
-    (λ rupt. Ok (last_hit (condition.Interrupt (Some rupt))))
+    if bytes_eq first (codes "ignore")
+    then back_target (condition.Interrupt None) (first ∷ words)
+    else and_then (interrupt_in first) (λ rupt. back_target (condition.Interrupt (Some rupt)) words)
 
 -- `back until PLACE` and `back until PLACE if CELL < WORD`
 abbrev pub back_place : Option (List Symbol) → List (List ℕ) → Result Command CommandFault
-back_place names words = and_then (only_order names name.Back words) (λ what. Ok (last_hit what))
+back_place names words =
+    and_then (order_in names name.Back words) (λ what. back_target what (after_order words))
 
 -- the same, `back until panel`, or one of the three before
 unfoldable pub back_until : Option (List Symbol) → List (List ℕ) → Result Command CommandFault
@@ -281,7 +320,7 @@ back_until names (first ∷ words) =
     if bytes_eq first (codes "write") then back_write words
     else if bytes_eq first (codes "cell") then back_cell names words
     else if bytes_eq first (codes "interrupt") then back_interrupt words
-    else if bytes_eq first (codes "panel") then alone (last_hit condition.Panel) name.Back words
+    else if bytes_eq first (codes "panel") then back_target condition.Panel words
     else back_place names (first ∷ words)
 
 -- `back C`, or one of the searches before
@@ -317,7 +356,7 @@ save_of words = and_then (only_word name.Save words) (λ word. Ok (command.Save 
 -- how the words after a name are parsed
 unfoldable pub command_by : Option (List Symbol) → CommandName → List (List ℕ) → Result Command CommandFault
 command_by names name.Go words = go_of words
-command_by names name.Step words = step_of words
+command_by names name.Step words = step_of names words
 command_by names name.Over words = call_of names name.Over call.Over words
 command_by names name.Finish words = call_of names name.Finish call.Finish words
 command_by names name.Until words = until_of names words
@@ -422,11 +461,11 @@ IsCommandInRange (command.StepCall step) = IsJobCell step.job × (step.within �
 IsCommandInRange (command.BackCall back) = IsJobCell back.job
 IsCommandInRange (command.Go cycles) = cycles ≤ last_cycle
 IsCommandInRange (command.GoTo cycle) = cycle ≤ last_cycle
-IsCommandInRange (command.Step boundaries) = boundaries ≤ last_cycle
+IsCommandInRange (command.Step steps) = (steps.boundaries ≤ last_cycle) × IsJobCell steps.cell
 IsCommandInRange (command.Ahead boundaries) = boundaries ≤ last_cycle
-IsCommandInRange (command.Until what within) = IsBreakpointInRange what × (within ≤ last_cycle)
+IsCommandInRange (command.Until what limits) = IsBreakpointInRange what × (limits.within ≤ last_cycle)
 IsCommandInRange (command.Break what) = IsBreakpointInRange what
-IsCommandInRange (command.Continue within) = within ≤ last_cycle
+IsCommandInRange (command.Continue limits) = limits.within ≤ last_cycle
 IsCommandInRange (command.Inject what) = IsWhatInRange what
 IsCommandInRange (command.Watch spec) = watch_fault_of spec ≡ None
 IsCommandInRange (command.Cells first count) = first + count ≤ erasable_cells

@@ -7,17 +7,17 @@ use Rattle.agc_repl.specs.declared.name.CommandName.TheVariants as name
 -- what a command does
 unfoldable pub purpose_text : CommandName → List ℕ
 purpose_text name.Go = codes "runs N cycles, or to cycle C, 0 to 1000000000000, decimal. Example: go 85333"
-purpose_text name.Step = codes "takes one boundary, or N, 0 to 1000000000000, decimal, with trace lines. Example: step 10"
+purpose_text name.Step = codes "takes one boundary, or N, 0 to 1000000000000, decimal, with trace lines; with PLACE, octal, only of those that change the cell, each with the cell. Example: step 10000 cell 0100"
 purpose_text name.Over =
     codes "runs over the call that comes next to the order behind it, for 1000000 cycles or N, decimal; takes one boundary if no call comes; with CELL, octal, only where it has its present word. Example: over"
 purpose_text name.Finish =
     codes "runs out of the routine, to the place that Q names, for 1000000 cycles or N, decimal; CELL as for over. Example: finish within 85333"
 purpose_text name.Until =
-    codes "runs on to it, for 1000000 cycles or N, decimal; PLACE and CCC, 5 to 777, are octal. Example: until write 10"
+    codes "runs on to it, for 1000000 cycles or N, decimal; ignore passes over N hits, decimal; PLACE and CCC, 5 to 777, are octal. Example: until write 10 ignore 2"
 purpose_text name.Break = codes "sets a breakpoint; PLACE, CCC, 5 to 777, and WORD, 0 to 77777, are octal; after if, >, = and != compare too, and WORD may be decimal with its sign. Example: break 4100 if 0100 < -3"
 purpose_text name.Breaks = codes "lists the breakpoints"
 purpose_text name.Delete = codes "deletes breakpoint N, from 1 on, decimal. Example: delete 2"
-purpose_text name.Continue = codes "runs on to the first breakpoint that is hit, for 1000000 cycles or N, decimal. Example: continue within 85333"
+purpose_text name.Continue = codes "runs on to the first breakpoint that is hit, for 1000000 cycles or N, decimal; ignore passes over N hits, decimal. Example: continue within 85333"
 purpose_text name.Quiet = codes "prints no channel writes of runs, or prints them again"
 purpose_text name.Panel = codes "shows the panel"
 purpose_text name.Watch =
@@ -31,7 +31,7 @@ purpose_text name.Print = codes "shows a cell, octal, or N from it on, 1 to 2048
 purpose_text name.Channel = codes "shows a channel, 0 to 777, octal. Example: channel 10"
 purpose_text name.Writes = codes "shows the number of channel writes so far"
 purpose_text name.Back =
-    codes "returns to before cycle C, decimal, to where the Nth last boundary began, from 1 on, decimal, to before a call, or to where the last one that hits it began, numbers as for break; drops later events, and with list prints them. Example: back until cell 0100"
+    codes "returns to before cycle C, decimal, to where the Nth last boundary began, from 1 on, decimal, to before a call, or to where the last one that hits it began, numbers as for break, ignore as for until; drops later events, and with list prints them. Example: back until cell 0100"
 purpose_text name.Script = codes "prints the script that repeats this session"
 purpose_text name.Save = codes "writes that script to a new file. Example: save my.script"
 purpose_text name.Help = codes "prints these lines"

@@ -17,3 +17,4 @@ pub mod Queries
 pub mod Answered
 pub mod Transcript
 pub mod Input
+pub mod Changes

@@ -47,16 +47,16 @@ name_named word = find (λ n. bytes_eq (name_text n) word) all_names
 -- the syntax of a command
 unfoldable pub usage_text : CommandName → List ℕ
 usage_text name.Go = codes "go N, or go to C"
-usage_text name.Step = codes "step, or step N"
+usage_text name.Step = codes "step, or step N [cell PLACE]"
 usage_text name.Over = codes "over [job CELL] [within N]"
 usage_text name.Finish = codes "finish [job CELL] [within N]"
 usage_text name.Until =
-    codes "until PLACE [if CELL < WORD], write CCC or cell PLACE [within N]"
+    codes "until PLACE [if CELL < WORD], write CCC or cell PLACE [ignore N] [within N]"
 usage_text name.Break =
     codes "break PLACE [if CELL < WORD], write CCC [WORD], cell PLACE, interrupt NAME or panel [TEXT]"
 usage_text name.Breaks = codes "breaks"
 usage_text name.Delete = codes "delete N"
-usage_text name.Continue = codes "continue [within N]"
+usage_text name.Continue = codes "continue [ignore N] [within N]"
 usage_text name.Quiet = codes "quiet, or quiet off"
 usage_text name.Panel = codes "panel"
 usage_text name.Watch = codes "watch PLACE, or watch SPEC"
@@ -69,7 +69,7 @@ usage_text name.Print = codes "print PLACE, or print PLACE N"
 usage_text name.Channel = codes "channel CCC"
 usage_text name.Writes = codes "writes"
 usage_text name.Back =
-    codes "back [list] C, step [N], over or finish [job CELL], or until PLACE [if CELL < WORD], write CCC [WORD], cell PLACE, interrupt [NAME] or panel"
+    codes "back [list] C, step [N], over or finish [job CELL], or until PLACE [if CELL < WORD], write CCC [WORD], cell PLACE, interrupt [NAME] or panel [ignore N]"
 usage_text name.Script = codes "script"
 usage_text name.Save = codes "save FILE"
 usage_text name.Help = codes "help"

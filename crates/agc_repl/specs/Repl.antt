@@ -1,5 +1,5 @@
 -- How the console's session runs on: the panel shows its writes, and they are counted.
-use Rattle.std.specs.Prelude.{◌≡◌, ◌<◌, ◌^◌, ◌+◌, ◌-◌, ℕ, zero, suc, min, Bool, true, false, List, [], ◌∷◌, Option, None, Some, if◌then◌else◌, is_none, nat_lt, ◌&&◌, replicate, map}
+use Rattle.std.specs.Prelude.{◌≡◌, ◌<◌, ◌^◌, ◌+◌, ◌-◌, ℕ, zero, suc, min, Bool, true, false, List, [], ◌∷◌, ◌++◌, Option, None, Some, if◌then◌else◌, is_none, nat_lt, ◌&&◌, replicate, map}
 use Rattle.agc_word.specs.declared.channel_write.ChannelWrite.{ChannelWrite}
 use Rattle.agc_machine.specs.Boundary.{boundary, due_event, upcoming_of}
 use Rattle.agc_machine.specs.Replay.{Chain, chain, writes_in}
@@ -12,6 +12,7 @@ use Rattle.agc_machine.specs.declared.upcoming.Upcoming.{Upcoming}
 use Rattle.agc_machine.specs.declared.upcoming.Upcoming.TheVariants as upcoming
 use Rattle.agc_panel.specs.Face.{face_after, panel_of}
 use Rattle.agc_script.specs.Event.{most_events}
+use Rattle.agc_session.specs.Condition.{armed_in}
 use Rattle.agc_session.specs.Session.{SessionState, retained_before, start_with, script_before}
 use Rattle.agc_repl.specs.Settings.{SettingsState}
 use Rattle.agc_repl.specs.Run.{Run, armed_by, run_to}
@@ -51,6 +52,22 @@ run_of armed cycle t = run_to armed cycle t.session.panel t.session.now
 
 abbrev pub all_armed : Repl → List Armed
 all_armed t = map (armed_by t.session.now) t.settings.breakpoints
+
+-- one run, then another from where it ends
+abbrev pub then_run : Run → Run → Run
+then_run first rest = record { last = rest.last; writes = first.writes ++ rest.writes; hit = rest.hit }
+
+-- conditions armed anew, in another state
+abbrev pub armed_anew : State → List Armed → List Armed
+armed_anew s armed = map (λ a. armed_in s a.number a.condition) armed
+
+-- A run that passes over this many hits: after each one the conditions are armed anew, and it runs on.
+unfoldable pub run_past : ℕ → List Armed → ℕ → Repl → Run
+run_past zero armed cycle t = run_of armed cycle t
+run_past (suc more) armed cycle t =
+    let run = run_of armed cycle t in
+    let on = after_run run t in
+    then_run run (run_past more (armed_anew on.session.now armed) cycle on)
 
 -- this many boundaries, with nothing injected
 abbrev pub after_chain : Chain → Repl → Repl

@@ -28,6 +28,7 @@ ghost use Rattle.agc_repl.specs.Settings.{
 };
 ghost use Rattle.agc_repl.specs.Run.{run_line, stop_line};
 ghost use Rattle.agc_trace.specs.OperandLine.{signed_text};
+ghost use Rattle.agc_session.specs.Comparison.{word_at};
 ghost use Rattle.agc_store.specs.Places.{erasable_cells};
 
 use crate::comparison::push_comparison;
@@ -177,9 +178,17 @@ pub fn push_cell_lines(
     Ok(())
 }
 
+/// Returns the word of a cell, overflow corrected.
+pub(crate) fn word_of(store: &Store, cell: u16) -> Narrow
+    requires { cell < erasable_cells }
+    ensures { result ≡ word_at cell store.now }
+{
+    store.cell((cell / ERASABLE_BANK_SIZE) as u8, cell % ERASABLE_BANK_SIZE)
+}
+
 /// Adds the line of a cell.
 #[tactic(auto, unfolding(crate::specs::Answer::cell_line))]
-fn push_cell_line(
+pub(crate) fn push_cell_line(
     text: &mut String,
     store: &Store,
     style: CellStyle,
@@ -189,7 +198,7 @@ fn push_cell_line(
     ensures { OnOk result
         (string_bytes text.new ≡ string_bytes text.old ++ cell_line style store.now cell) }
 {
-    let word = store.cell((cell / ERASABLE_BANK_SIZE) as u8, cell % ERASABLE_BANK_SIZE);
+    let word = word_of(store, cell);
     let place = Cell::new(cell).place();
     match style {
         CellStyle::Octal => {

@@ -6,9 +6,9 @@ ghost use Rattle.agc_repl.specs.Command.{IsCommandInRange, IsJobCell, after_job,
 use crate::command::{BackCall, Command, StepCall};
 use crate::comparison::without_first;
 use crate::fault::CommandFault;
+use crate::limits::read_within;
 use crate::name::CommandName;
 use crate::place::read_cell;
-use crate::request::read_within;
 use crate::words::{alone, is_word};
 use agc_session::CallStep;
 use agc_symbols::SymbolTable;

@@ -46,6 +46,23 @@ pub struct BackCall {
     pub lists: bool,
 }
 
+/// Boundaries to take.
+#[derive(Clone, Copy, Debug, PartialEq, Eq)]
+pub struct Steps {
+    pub boundaries: u64,
+    /// The cell whose changes are shown, or `None` if each boundary is.
+    pub cell: Option<u16>,
+}
+
+/// How far a run to a hit goes.
+#[derive(Clone, Copy, Debug, PartialEq, Eq)]
+pub struct Limits {
+    /// The hits to pass over.
+    pub ignore: u64,
+    /// The most cycles.
+    pub within: u64,
+}
+
 /// A command of the console.
 #[derive(Clone, Copy, Debug, PartialEq, Eq)]
 pub enum Command {
@@ -53,20 +70,20 @@ pub enum Command {
     Go(u64),
     /// Run until this cycle is reached or passed.
     GoTo(u64),
-    /// Take this many boundaries.
-    Step(u64),
+    /// Take some boundaries.
+    Step(Steps),
     /// Step over a call, or finish one.
     StepCall(StepCall),
-    /// Run until a condition is hit, for at most this many cycles.
-    Until { what: Condition, within: u64 },
+    /// Run until a condition is hit.
+    Until { what: Condition, limits: Limits },
     /// Set a numbered breakpoint.
     Break(Condition),
     /// List the numbered breakpoints.
     Breaks,
     /// Delete the breakpoint with this number.
     Delete(u64),
-    /// Run to the first numbered breakpoint that is hit, for at most this many cycles.
-    Continue(u64),
+    /// Run to the first numbered breakpoint that is hit.
+    Continue(Limits),
     /// Print no channel writes while the machine runs, or print them again.
     Quiet(bool),
     /// Inject an event now.

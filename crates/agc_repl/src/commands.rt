@@ -1,22 +1,25 @@
 //! Executes the commands that move the machine.
-ghost use Rattle.std.specs.Prelude.{◌≡◌, ◌≢◌, ◌⊎◌, ◌++◌, true, false, ◌+◌, ◌-◌, ◌^◌, [], ◌∷◌, min, IsErrOf, IfErr, IfOk, IfSome, OnOk, OnErr, flat_map, is_some, length, map, string_bytes};
+ghost use Rattle.std.specs.Prelude.{◌≡◌, ◌≢◌, ◌⊎◌, ◌++◌, true, false, ◌+◌, ◌-◌, ◌^◌, [], ◌∷◌, ◌<◌, min, IsErrOf, IfErr, IfOk, IfSome, OnOk, OnErr, is_some, length, map, string_bytes};
 ghost use Rattle.std.specs.Io.KnownBytes.{Appends, Keeps, append_known};
 ghost use Rattle.agc_machine.specs.Boundary.{boundary, upcoming_of};
 ghost use Rattle.agc_machine.specs.Laws.{HasChannel};
 ghost use Rattle.agc_machine.specs.Replay.{writes_in};
 ghost use Rattle.agc_session.specs.Session.{injected_now};
 ghost use Rattle.agc_trace.specs.Entry.{FitsLine, entry_of};
-ghost use Rattle.agc_trace.specs.NamedLine.{line_with};
-ghost use Rattle.agc_trace.specs.Trace.{trace_within};
 ghost use Rattle.agc_session.specs.Condition.{armed_in};
-ghost use Rattle.agc_repl.specs.Command.{IsBreakpointInRange};
-ghost use Rattle.agc_repl.specs.Answered.{Begins, Grows, Outputs, refusal_text, shown_continue, shown_run, shown_until};
+ghost use Rattle.agc_repl.specs.Changes.{boundary_text, change_text, step_text};
+ghost use Rattle.agc_repl.specs.Command.{IsBreakpointInRange, IsJobCell};
+ghost use Rattle.agc_repl.specs.Answered.{Begins, Grows, Outputs, limited_run, refusal_text, shown_continue, shown_run, shown_until};
 ghost use Rattle.agc_repl.specs.Settings.{AreInRange};
-ghost use Rattle.agc_repl.specs.Repl.{GoesOn, RunsOn, after_boundaries, after_due, after_run, all_armed, gone_on, run_of, takes_event};
-ghost use Rattle.agc_repl.specs.Run.{AreSound, armed_by, writes_text};
+ghost use Rattle.agc_repl.specs.Repl.{GoesOn, RunsOn, after_boundaries, after_due, after_run, all_armed, armed_anew, gone_on, run_of, takes_event};
+ghost use Rattle.agc_repl.specs.Run.{AreSound, armed_by, is_short_of, writes_text};
 ghost use Rattle.agc_script.specs.Event.{IsWhatInRange, most_events};
+ghost use Rattle.agc_store.specs.Places.{erasable_cells};
 
-use crate::answer::{push_hit_line, push_run_line, push_stop_line};
+use crate::answer::{
+    CellStyle, push_cell_line, push_hit_line, push_run_line, push_stop_line, word_of,
+};
+use crate::command::{Limits, Steps};
 use crate::conversation::ReplFault;
 use crate::output::write_part;
 use crate::repl::Repl;
@@ -84,6 +87,7 @@ fn run_to<W: Write>(
     requires { AreSound armed.now }
     ensures gone { OnOk result (repl.new ≡ after_run (run_of armed.now cycle repl.old) repl.old) }
     ensures hit { IfOk result (λ hit. hit ≡ (run_of armed.now cycle repl.old).hit) }
+    ensures over { IfOk result (λ hit. is_some hit ≡ false → is_short_of cycle repl.new.session.now ≡ false) }
     ensures range { IfOk result (λ hit. IfSome hit (λ a. IsBreakpointInRange a.condition)) }
     ensures reported { OnOk result (Appends (append_known (W.contents output.old) (string_bytes text.old))
         (append_known (W.contents output.new) (string_bytes text.new))
@@ -130,33 +134,86 @@ fn print_write<W: Write>(
     write_part(text, output)
 }
 
-/// Takes `boundaries` boundaries, but none after the stop, and prints each one's trace line, with the symbols in
-/// `names`.
+/// Takes some boundaries, but none after the stop, and prints each one's trace line, with the symbols in `names`. With a
+/// cell, prints only those of boundaries that change it, and the cell after each.
 pub(crate) fn step<W: Write>(
     repl: &mut Repl,
     names: &Option<SymbolTable>,
-    boundaries: u64,
+    steps: Steps,
     text: &mut String,
     output: &mut W,
 ) -> Result<(), ReplFault>
-    ensures gone { OnOk result (repl.new ≡ after_boundaries boundaries repl.old) }
+    requires { IsJobCell steps.cell }
+    ensures gone { OnOk result (repl.new ≡ after_boundaries steps.boundaries repl.old) }
     ensures lines { OnOk result (Appends (append_known (W.contents output.old) (string_bytes text.old))
         (append_known (W.contents output.new) (string_bytes text.new))
-        (flat_map (line_with names.now) (trace_within boundaries repl.old.session.now))) }
+        (step_text names.now steps.cell steps.boundaries repl.old.session.now)) }
     ensures on { RunsOn repl.old repl.new }
     ensures begins { IsErrOf result ReplFault.Memory → Begins (string_bytes text.old
-        ++ flat_map (line_with names.now) (trace_within boundaries repl.old.session.now)) (W.contents output.old) (W.contents output.new) }
+        ++ step_text names.now steps.cell steps.boundaries repl.old.session.now) (W.contents output.old) (W.contents output.new) }
     ensures grows { (IsErrOf result ReplFault.Write → ⊥) → Grows (W.contents output.old) (W.contents output.new) }
 {
-    for _boundary in 0..boundaries {
-        let entry = next_entry(repl);
-        push_line_with(text, names, &entry)?;
+    for _boundary in 0..steps.boundaries {
+        let entry = push_step(repl, names, steps.cell, text)?;
         write_part(text, output)?;
         if entry.is_stop() {
             return Ok(());
         }
     }
     Ok(())
+}
+
+/// Takes one boundary and adds its trace line; with a cell, only if it changes the cell, and then the cell. Returns its
+/// trace entry.
+fn push_step(
+    repl: &mut Repl,
+    names: &Option<SymbolTable>,
+    cell: Option<u16>,
+    text: &mut String,
+) -> Result<Entry, AllocError>
+    requires { IsJobCell cell }
+    ensures entry { IfOk result (λ entry. entry ≡ entry_of repl.old.session.now) }
+    ensures lines { OnOk result (string_bytes text.new
+        ≡ string_bytes text.old ++ boundary_text names.now cell repl.old.session.now) }
+    ensures now { repl.new.session.now ≡ (boundary None repl.old.session.now).0 }
+    ensures shown { repl.new ≡ gone_on repl.new.session.now
+        (writes_in ((boundary None repl.old.session.now).1 ∷ [])) repl.old }
+    ensures on { RunsOn repl.old repl.new }
+{
+    match cell {
+        None => {
+            let entry = next_entry(repl);
+            push_line_with(text, names, &entry)?;
+            Ok(entry)
+        }
+        Some(cell) => push_change(repl, names, cell, text),
+    }
+}
+
+/// Takes one boundary and, if it changes a cell, adds its trace line and the cell. Returns its trace entry.
+fn push_change(
+    repl: &mut Repl,
+    names: &Option<SymbolTable>,
+    cell: u16,
+    text: &mut String,
+) -> Result<Entry, AllocError>
+    requires { cell < erasable_cells }
+    ensures entry { IfOk result (λ entry. entry ≡ entry_of repl.old.session.now) }
+    ensures lines { OnOk result (string_bytes text.new
+        ≡ string_bytes text.old ++ change_text names.now cell repl.old.session.now) }
+    ensures now { repl.new.session.now ≡ (boundary None repl.old.session.now).0 }
+    ensures shown { repl.new ≡ gone_on repl.new.session.now
+        (writes_in ((boundary None repl.old.session.now).1 ∷ [])) repl.old }
+    ensures on { RunsOn repl.old repl.new }
+{
+    let before = word_of(repl.machine().store(), cell);
+    let entry = next_entry(repl);
+    let store = repl.machine().store();
+    if word_of(store, cell) != before {
+        push_line_with(text, names, &entry)?;
+        push_cell_line(text, store, CellStyle::Octal, cell)?;
+    }
+    Ok(entry)
 }
 
 /// Takes one boundary and returns its trace entry.
@@ -183,79 +240,108 @@ fn next_entry(repl: &mut Repl) -> Entry
     }
 }
 
-/// Runs until a condition is hit, for at most `within` cycles or to the stop. Prints each channel write, and whether the
-/// condition was hit.
+/// Runs until a condition is hit, to the limits or to the stop. Prints each channel write, and whether it was hit.
 pub(crate) fn until<W: Write>(
+    alloc: Global,
     repl: &mut Repl,
     what: Condition,
-    within: u64,
+    limits: Limits,
     text: &mut String,
     output: &mut W,
 ) -> Result<(), ReplFault>
     requires { IsBreakpointInRange what }
-    ensures reported { OnOk result (Outputs (shown_until (run_of (armed_in repl.old.session.now 0 what ∷ [])
-        (min (repl.old.session.now.cycle + within) (2 ^ 64 - 1)) repl.old) repl.old) repl.new
+    ensures reported { OnOk result (Outputs (shown_until (limited_run limits (armed_in repl.old.session.now 0 what ∷ []) repl.old)
+        repl.old) repl.new
         (append_known (W.contents output.old) (string_bytes text.old))
         (append_known (W.contents output.new) (string_bytes text.new))) }
     ensures on { RunsOn repl.old repl.new }
     ensures begins { IsErrOf result ReplFault.Memory → Begins (string_bytes text.old
-        ++ (shown_until (run_of (armed_in repl.old.session.now 0 what ∷ [])
-        (min (repl.old.session.now.cycle + within) (2 ^ 64 - 1)) repl.old) repl.old).1)
+        ++ (shown_until (limited_run limits (armed_in repl.old.session.now 0 what ∷ []) repl.old) repl.old).1)
         (W.contents output.old) (W.contents output.new) }
     ensures grows { (IsErrOf result ReplFault.Write → ⊥) → Grows (W.contents output.old) (W.contents output.new) }
 {
-    let armed = Armed::new(repl.machine(), 0, what);
-    let end = repl.cycle().saturating_add(within);
-    go_until(repl, &[armed], end, text, output)
-}
-
-/// Runs to `cycle`, to the stop or until one of `armed` is hit. Prints each channel write, and whether one was hit.
-fn go_until<W: Write>(
-    repl: &mut Repl,
-    armed: &[Armed],
-    cycle: u64,
-    text: &mut String,
-    output: &mut W,
-) -> Result<(), ReplFault>
-    requires { AreSound armed.now }
-    ensures reported { OnOk result (Outputs (shown_until (run_of armed.now cycle repl.old) repl.old) repl.new
-        (append_known (W.contents output.old) (string_bytes text.old))
-        (append_known (W.contents output.new) (string_bytes text.new))) }
-    ensures on { RunsOn repl.old repl.new }
-    ensures begins { IsErrOf result ReplFault.Memory → Begins (string_bytes text.old
-        ++ (shown_until (run_of armed.now cycle repl.old) repl.old).1)
-        (W.contents output.old) (W.contents output.new) }
-    ensures grows { (IsErrOf result ReplFault.Write → ⊥) → Grows (W.contents output.old) (W.contents output.new) }
-{
-    let quiet = repl.settings.quiet();
-    let hit = run_to(repl, armed, cycle, quiet, text, output)?;
+    let armed = arm_each(alloc, repl.machine(), &[Numbered { number: 0, what }])?;
+    let hit = run_limited(alloc, repl, armed, limits, text, output)?;
     push_hit_line(text, hit.is_some())?;
     Ok(())
 }
 
-/// Runs to the first numbered breakpoint that is hit, for at most `within` cycles or to the stop. Prints each channel
-/// write, and which breakpoint was hit.
+/// Runs to the first numbered breakpoint that is hit, to the limits or to the stop. Prints each channel write, and which
+/// breakpoint was hit.
 pub(crate) fn go_on_until<W: Write>(
     alloc: Global,
     repl: &mut Repl,
-    within: u64,
+    limits: Limits,
     text: &mut String,
     output: &mut W,
 ) -> Result<(), ReplFault>
-    ensures reported { OnOk result (Outputs (shown_continue (run_of (all_armed repl.old)
-        (min (repl.old.session.now.cycle + within) (2 ^ 64 - 1)) repl.old) repl.old) repl.new
+    ensures reported { OnOk result (Outputs (shown_continue (limited_run limits (all_armed repl.old) repl.old) repl.old) repl.new
         (append_known (W.contents output.old) (string_bytes text.old))
         (append_known (W.contents output.new) (string_bytes text.new))) }
     ensures on { RunsOn repl.old repl.new }
     ensures begins { IsErrOf result ReplFault.Memory → Begins (string_bytes text.old
-        ++ (shown_continue (run_of (all_armed repl.old)
-        (min (repl.old.session.now.cycle + within) (2 ^ 64 - 1)) repl.old) repl.old).1)
+        ++ (shown_continue (limited_run limits (all_armed repl.old) repl.old) repl.old).1)
         (W.contents output.old) (W.contents output.new) }
     ensures grows { (IsErrOf result ReplFault.Write → ⊥) → Grows (W.contents output.old) (W.contents output.new) }
 {
     let armed = arm_each(alloc, repl.machine(), repl.settings.breakpoints())?;
-    let end = repl.cycle().saturating_add(within);
-    continue_until(repl, armed.as_slice(), end, text, output)
+    let hit = run_limited(alloc, repl, armed, limits, text, output)?;
+    push_stop_line(text, hit)?;
+    Ok(())
+}
+
+/// Runs until one of `armed` is hit, to the limits or to the stop, and prints each channel write. Returns the one that
+/// was hit.
+fn run_limited<W: Write>(
+    alloc: Global,
+    repl: &mut Repl,
+    armed: Vec<Armed>,
+    limits: Limits,
+    text: &mut String,
+    output: &mut W,
+) -> Result<Option<Armed>, ReplFault>
+    requires { AreSound armed.items }
+    ensures gone { OnOk result (repl.new ≡ after_run (limited_run limits armed.items repl.old) repl.old) }
+    ensures hit { IfOk result (λ hit. hit ≡ (limited_run limits armed.items repl.old).hit) }
+    ensures range { IfOk result (λ hit. IfSome hit (λ a. IsBreakpointInRange a.condition)) }
+    ensures reported { OnOk result (Appends (append_known (W.contents output.old) (string_bytes text.old))
+        (append_known (W.contents output.new) (string_bytes text.new))
+        (writes_text repl.old.settings.quiet (limited_run limits armed.items repl.old).writes)) }
+    ensures on { RunsOn repl.old repl.new }
+    ensures begins { IsErrOf result ReplFault.Memory → Begins (string_bytes text.old
+        ++ writes_text repl.old.settings.quiet (limited_run limits armed.items repl.old).writes)
+        (W.contents output.old) (W.contents output.new) }
+    ensures grows { (IsErrOf result ReplFault.Write → ⊥) → Grows (W.contents output.old) (W.contents output.new) }
+{
+    let cycle = repl.cycle().saturating_add(limits.within);
+    let quiet = repl.settings.quiet();
+    let mut armed = armed;
+    for _passed in 0..limits.ignore {
+        let hit = run_to(repl, armed.as_slice(), cycle, quiet, text, output)?;
+        if hit.is_none() {
+            return Ok(None);
+        }
+        armed = arm_anew(alloc, repl.machine(), armed.as_slice())?;
+    }
+    run_to(repl, armed.as_slice(), cycle, quiet, text, output)
+}
+
+/// Returns conditions armed anew.
+fn arm_anew(alloc: Global, machine: &Machine, armed: &[Armed]) -> Result<Vec<Armed>, AllocError>
+    requires { AreSound armed.now }
+    ensures anew { IfOk result (λ anew. anew.items ≡ armed_anew machine.now armed.now) }
+    ensures range { IfOk result (λ anew. AreSound anew.items) }
+{
+    let mut anew = Vec::new(alloc);
+    for one in armed {
+        let condition = Numbered {
+            number: one.number,
+            what: one.condition,
+        };
+        let again: Armed = arm(machine, &condition);
+        anew.push(again)?;
+    }
+    Ok(anew)
 }
 
 /// Returns breakpoints, armed now.
@@ -282,30 +368,6 @@ fn arm(machine: &Machine, breakpoint: &Numbered) -> Armed
     ensures { result ≡ armed_by machine.now breakpoint.now }
 {
     Armed::new(machine, breakpoint.number, breakpoint.what)
-}
-
-/// Runs to `cycle`, to the stop or until one of `armed` is hit. Prints each channel write, and which one was hit.
-fn continue_until<W: Write>(
-    repl: &mut Repl,
-    armed: &[Armed],
-    cycle: u64,
-    text: &mut String,
-    output: &mut W,
-) -> Result<(), ReplFault>
-    requires { AreSound armed.now }
-    ensures reported { OnOk result (Outputs (shown_continue (run_of armed.now cycle repl.old) repl.old) repl.new
-        (append_known (W.contents output.old) (string_bytes text.old))
-        (append_known (W.contents output.new) (string_bytes text.new))) }
-    ensures on { RunsOn repl.old repl.new }
-    ensures begins { IsErrOf result ReplFault.Memory → Begins (string_bytes text.old
-        ++ (shown_continue (run_of armed.now cycle repl.old) repl.old).1)
-        (W.contents output.old) (W.contents output.new) }
-    ensures grows { (IsErrOf result ReplFault.Write → ⊥) → Grows (W.contents output.old) (W.contents output.new) }
-{
-    let quiet = repl.settings.quiet();
-    let hit = run_to(repl, armed, cycle, quiet, text, output)?;
-    push_stop_line(text, hit)?;
-    Ok(())
 }
 
 /// Injects an event, after the script's events that are due. If memory runs out, it is not injected.

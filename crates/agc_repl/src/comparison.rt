@@ -4,7 +4,7 @@ ghost use Rattle.agc_listing.specs.Location.{IsWithin};
 ghost use Rattle.agc_word.specs.Text.{words_of};
 ghost use Rattle.agc_session.specs.Comparison.{IsComparisonInRange};
 ghost use Rattle.agc_session.specs.Condition.{IsConditionInRange};
-ghost use Rattle.agc_repl.specs.Command.{IsBreakpointInRange, IsCommandInRange, until_place};
+ghost use Rattle.agc_repl.specs.Command.{IsBreakpointInRange, IsCommandInRange, back_place, until_place};
 ghost use Rattle.agc_repl.specs.Comparison.{
   after_order,
   compared_in,
@@ -22,7 +22,7 @@ use crate::command::Command;
 use crate::fault::CommandFault;
 use crate::name::CommandName;
 use crate::place::{read_cell, read_place};
-use crate::request::read_until_target;
+use crate::request::{read_back_target, read_until_target};
 use crate::words::is_word;
 use agc_listing::{Cell, Location, decimal_word, octal_word, push_place};
 use agc_session::{Comparison, Condition, Relation};
@@ -75,6 +75,21 @@ pub(crate) fn read_until_place(
     let rest = after_order(words);
     match read_order(names, CommandName::Until, words) {
         Ok(what) => read_until_target(what, rest),
+        Err(fault) => Err(fault),
+    }
+}
+
+/// Parses the words after `back until`: the place of an order, a comparison if one follows, and the hits to pass over.
+pub(crate) fn read_back_place(
+    names: &Option<SymbolTable>,
+    words: &[u8],
+) -> Result<Command, CommandFault>
+    ensures back { result ≡ back_place names.now (words_of words.now) }
+    ensures range { IfOk result IsCommandInRange }
+{
+    let rest = after_order(words);
+    match read_order(names, CommandName::Back, words) {
+        Ok(what) => read_back_target(what, rest),
         Err(fault) => Err(fault),
     }
 }

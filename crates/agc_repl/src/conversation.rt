@@ -43,7 +43,7 @@ ghost use Rattle.agc_repl.specs.declared.conversation.ReplFault.TheVariants.{Mem
 
 use crate::ahead::ahead;
 use crate::answer::{push_breakpoint_line, push_end_line, push_refusal_line};
-use crate::command::{BackCall, Command, Rewind, Search, StepCall};
+use crate::command::{BackCall, Command, Limits, Rewind, Search, StepCall};
 use crate::commands::{go, go_on_to, go_on_until, inject, refusal, step, until};
 use crate::fault::CommandFault;
 use crate::file_name::FileName;
@@ -205,10 +205,11 @@ fn answer_call<W: Write>(
         (W.contents output.old) (W.contents output.new)) }
 {
     let what = step.step.ahead(repl.machine(), step.job);
-    let until = Command::Until {
-        what,
+    let limits = Limits {
+        ignore: 0,
         within: step.within,
     };
+    let until = Command::Until { what, limits };
     answer_without_search(alloc, names, repl, Ok(Some(until)), output)
 }
 
@@ -452,10 +453,10 @@ fn carry_out<W: Write>(
     match command {
         Command::Go(cycles) => go(repl, cycles, text, output),
         Command::GoTo(cycle) => go_on_to(repl, cycle, text, output),
-        Command::Step(boundaries) => step(repl, names, boundaries, text, output),
+        Command::Step(steps) => step(repl, names, steps, text, output),
         Command::Ahead(boundaries) => ahead(alloc, repl, names, boundaries, text, output),
-        Command::Until { what, within } => until(repl, what, within, text, output),
-        Command::Continue(within) => go_on_until(alloc, repl, within, text, output),
+        Command::Until { what, limits } => until(alloc, repl, what, limits, text, output),
+        Command::Continue(limits) => go_on_until(alloc, repl, limits, text, output),
         shown => show(alloc, names, repl, shown, text),
     }
 }

@@ -66,19 +66,19 @@ fn purpose(name: CommandName) -> &'static str
         CommandName::Go =>
             "runs N cycles, or to cycle C, 0 to 1000000000000, decimal. Example: go 85333",
         CommandName::Step =>
-            "takes one boundary, or N, 0 to 1000000000000, decimal, with trace lines. Example: step 10",
+            "takes one boundary, or N, 0 to 1000000000000, decimal, with trace lines; with PLACE, octal, only of those that change the cell, each with the cell. Example: step 10000 cell 0100",
         CommandName::Over =>
             "runs over the call that comes next to the order behind it, for 1000000 cycles or N, decimal; takes one boundary if no call comes; with CELL, octal, only where it has its present word. Example: over",
         CommandName::Finish =>
             "runs out of the routine, to the place that Q names, for 1000000 cycles or N, decimal; CELL as for over. Example: finish within 85333",
         CommandName::Until =>
-            "runs on to it, for 1000000 cycles or N, decimal; PLACE and CCC, 5 to 777, are octal. Example: until write 10",
+            "runs on to it, for 1000000 cycles or N, decimal; ignore passes over N hits, decimal; PLACE and CCC, 5 to 777, are octal. Example: until write 10 ignore 2",
         CommandName::Break =>
             "sets a breakpoint; PLACE, CCC, 5 to 777, and WORD, 0 to 77777, are octal; after if, >, = and != compare too, and WORD may be decimal with its sign. Example: break 4100 if 0100 < -3",
         CommandName::Breaks => "lists the breakpoints",
         CommandName::Delete => "deletes breakpoint N, from 1 on, decimal. Example: delete 2",
         CommandName::Continue =>
-            "runs on to the first breakpoint that is hit, for 1000000 cycles or N, decimal. Example: continue within 85333",
+            "runs on to the first breakpoint that is hit, for 1000000 cycles or N, decimal; ignore passes over N hits, decimal. Example: continue within 85333",
         CommandName::Quiet => "prints no channel writes of runs, or prints them again",
         CommandName::Panel => "shows the panel",
         CommandName::Watch =>
@@ -96,7 +96,7 @@ fn purpose(name: CommandName) -> &'static str
         CommandName::Channel => "shows a channel, 0 to 777, octal. Example: channel 10",
         CommandName::Writes => "shows the number of channel writes so far",
         CommandName::Back =>
-            "returns to before cycle C, decimal, to where the Nth last boundary began, from 1 on, decimal, to before a call, or to where the last one that hits it began, numbers as for break; drops later events, and with list prints them. Example: back until cell 0100",
+            "returns to before cycle C, decimal, to where the Nth last boundary began, from 1 on, decimal, to before a call, or to where the last one that hits it began, numbers as for break, ignore as for until; drops later events, and with list prints them. Example: back until cell 0100",
         CommandName::Script => "prints the script that repeats this session",
         CommandName::Save => "writes that script to a new file. Example: save my.script",
         CommandName::Help => "prints these lines",

@@ -12,6 +12,7 @@ mod edits;
 mod fault;
 mod file_name;
 mod help;
+mod limits;
 mod lines;
 mod meant;
 mod name;
@@ -30,7 +31,7 @@ pub use answer::{
     CellStyle, push_cell_lines, push_channel_line, push_end_line, push_error_line, push_fault_line,
     push_hit_line, push_write_line, push_writes_line,
 };
-pub use command::{BackCall, Command, Rewind, Search, StepCall};
+pub use command::{BackCall, Command, Limits, Rewind, Search, StepCall, Steps};
 pub use conversation::{ReplFault, run_repl};
 pub use fault::CommandFault;
 pub use file_name::FileName;

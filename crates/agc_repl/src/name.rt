@@ -114,17 +114,17 @@ impl CommandName {
     {
         match self {
             CommandName::Go => "go N, or go to C",
-            CommandName::Step => "step, or step N",
+            CommandName::Step => "step, or step N [cell PLACE]",
             CommandName::Over => "over [job CELL] [within N]",
             CommandName::Finish => "finish [job CELL] [within N]",
             CommandName::Until =>
-                "until PLACE [if CELL < WORD], write CCC or cell PLACE [within N]",
+                "until PLACE [if CELL < WORD], write CCC or cell PLACE [ignore N] [within N]",
             CommandName::Break => {
                 "break PLACE [if CELL < WORD], write CCC [WORD], cell PLACE, interrupt NAME or panel [TEXT]"
             }
             CommandName::Breaks => "breaks",
             CommandName::Delete => "delete N",
-            CommandName::Continue => "continue [within N]",
+            CommandName::Continue => "continue [ignore N] [within N]",
             CommandName::Quiet => "quiet, or quiet off",
             CommandName::Panel => "panel",
             CommandName::Watch => "watch PLACE, or watch SPEC",
@@ -137,7 +137,7 @@ impl CommandName {
             CommandName::Channel => "channel CCC",
             CommandName::Writes => "writes",
             CommandName::Back => {
-                "back [list] C, step [N], over or finish [job CELL], or until PLACE [if CELL < WORD], write CCC [WORD], cell PLACE, interrupt [NAME] or panel"
+                "back [list] C, step [N], over or finish [job CELL], or until PLACE [if CELL < WORD], write CCC [WORD], cell PLACE, interrupt [NAME] or panel [ignore N]"
             }
             CommandName::Script => "script",
             CommandName::Save => "save FILE",

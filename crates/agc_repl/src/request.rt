@@ -7,16 +7,16 @@ ghost use Rattle.agc_session.specs.Condition.{IsConditionInRange};
 ghost use Rattle.agc_repl.specs.Command.{
   IsCommandInRange,
   IsBreakpointInRange,
+  IsJobCell,
   ahead_of,
   back_cell,
   back_interrupt,
   back_of,
-  back_place,
   back_step,
+  back_target,
   back_until,
   back_write,
   back_write_of,
-  last_hit,
   listing,
   break_of,
   break_at_cell,
@@ -39,25 +39,27 @@ ghost use Rattle.agc_repl.specs.Command.{
   event_fault,
   event_of,
   go_of,
+  hit_past,
   key_fault,
   key_from,
   request_of,
   save_of,
+  step_cell,
   step_of,
   until_of,
   until_target,
   watch_of,
   watch_word,
   way_back,
-  within_of,
   words_request,
 };
 
 use crate::calls::{read_back_call, read_call};
-use crate::command::{BackCall, Command, Rewind, Search};
-use crate::comparison::{read_only_order, read_until_place};
+use crate::command::{BackCall, Command, Rewind, Search, Steps};
+use crate::comparison::{read_back_place, read_only_order, read_until_place};
 use crate::fault::CommandFault;
 use crate::file_name::FileName;
+use crate::limits::{after_ignored, read_ignored, read_limits};
 use crate::name::CommandName;
 use crate::number::{
     read_channel, read_cycles, read_interrupt, read_spec, read_word, read_written_channel,
@@ -70,9 +72,6 @@ use agc_script::{FaultKind, Key, LONGEST_LINE, has_high_byte, read_command};
 use agc_session::{CallStep, Condition};
 use agc_symbols::SymbolTable;
 use agc_word::next_word;
-
-/// The number of cycles that `until` runs at most if no `within N` is written.
-const WITHIN: u64 = 1_000_000;
 
 /// Parses a line. Returns `None` for a line without words and for a comment, or its fault. With `names`, a symbol can
 /// be written for any place: `resolve` of agc_symbols reads it.
@@ -123,7 +122,7 @@ fn read_named(
 {
     match name {
         CommandName::Go => read_go(words),
-        CommandName::Step => read_step(words),
+        CommandName::Step => read_step(names, words),
         CommandName::Over => read_call(names, name, CallStep::Over, words),
         CommandName::Finish => read_call(names, name, CallStep::Finish, words),
         CommandName::Until => read_until(names, words),
@@ -239,16 +238,36 @@ fn read_go(words: &[u8]) -> Result<Command, CommandFault>
 }
 
 #[tactic(auto, unfolding(crate::specs::Command::step_of, crate::specs::Command::IsCommandInRange))]
-fn read_step(words: &[u8]) -> Result<Command, CommandFault>
-    ensures step { result ≡ step_of (words_of words.now) }
+fn read_step(names: &Option<SymbolTable>, words: &[u8]) -> Result<Command, CommandFault>
+    ensures step { result ≡ step_of names.now (words_of words.now) }
     ensures range { IfOk result IsCommandInRange }
 {
-    if next_word(words).is_none() {
-        return Ok(Command::Step(1));
-    }
-    let boundaries = only_word(CommandName::Step, words)?;
+    let Some((boundaries, rest)) = next_word(words) else {
+        return Ok(Command::Step(Steps {
+            boundaries: 1,
+            cell: None,
+        }));
+    };
     let boundaries = read_cycles(boundaries)?;
-    Ok(Command::Step(boundaries))
+    let cell = read_step_cell(names, rest)?;
+    Ok(Command::Step(Steps { boundaries, cell }))
+}
+
+/// Parses `cell PLACE`, which may be missing.
+#[tactic(auto, unfolding(crate::specs::Command::step_cell))]
+fn read_step_cell(names: &Option<SymbolTable>, words: &[u8]) -> Result<Option<u16>, CommandFault>
+    ensures cell { result ≡ step_cell names.now (words_of words.now) }
+    ensures range { IfOk result IsJobCell }
+{
+    let Some((first, rest)) = next_word(words) else {
+        return Ok(None);
+    };
+    if !is_word(first, "cell") {
+        return Err(CommandFault::Usage(CommandName::Step));
+    }
+    let place = only_word(CommandName::Step, rest)?;
+    let cell = read_cell(names, place)?;
+    Ok(Some(cell))
 }
 
 #[tactic(auto, unfolding(crate::specs::Command::ahead_of, crate::specs::Command::IsCommandInRange))]
@@ -296,24 +315,8 @@ pub(crate) fn read_until_target(what: Condition, words: &[u8]) -> Result<Command
     ensures until { result ≡ until_target what (words_of words.now) }
     ensures range { IfOk result IsCommandInRange }
 {
-    let within = read_within(CommandName::Until, words)?;
-    Ok(Command::Until { what, within })
-}
-
-/// Parses `within N`. Without words, returns the default.
-#[tactic(auto, unfolding(crate::specs::Command::within_of))]
-pub(crate) fn read_within(name: CommandName, words: &[u8]) -> Result<u64, CommandFault>
-    ensures within { result ≡ within_of name (words_of words.now) }
-    ensures range { IfOk result (λ cycles. cycles ≤ last_cycle) }
-{
-    let Some((first, rest)) = next_word(words) else {
-        return Ok(WITHIN);
-    };
-    if !is_word(first, "within") {
-        return Err(CommandFault::Usage(name));
-    }
-    let cycles = only_word(name, rest)?;
-    read_cycles(cycles)
+    let limits = read_limits(CommandName::Until, words)?;
+    Ok(Command::Until { what, limits })
 }
 
 #[tactic(auto, unfolding(crate::specs::Command::watch_of, crate::specs::Command::IsCommandInRange))]
@@ -468,8 +471,8 @@ fn read_continue(words: &[u8]) -> Result<Command, CommandFault>
     ensures on { result ≡ continue_of (words_of words.now) }
     ensures range { IfOk result IsCommandInRange }
 {
-    let within = read_within(CommandName::Continue, words)?;
-    Ok(Command::Continue(within))
+    let limits = read_limits(CommandName::Continue, words)?;
+    Ok(Command::Continue(limits))
 }
 
 #[tactic(auto, unfolding(crate::specs::Command::quiet_of, crate::specs::Command::IsCommandInRange))]
@@ -601,7 +604,7 @@ fn read_back_step(words: &[u8]) -> Result<Command, CommandFault>
     ensures range { IfOk result IsCommandInRange }
 {
     if next_word(words).is_none() {
-        return Ok(last_hit(Condition::Boundary));
+        return Ok(hit_past(0, Condition::Boundary));
     }
     let boundaries = only_word(CommandName::Back, words)?;
     let count = read_cycles(boundaries)?;
@@ -628,22 +631,23 @@ fn read_back_until(names: &Option<SymbolTable>, words: &[u8]) -> Result<Command,
     } else if is_word(first, "interrupt") {
         read_back_interrupt(rest)
     } else if is_word(first, "panel") {
-        alone(last_hit(Condition::Panel), CommandName::Back, rest)
+        read_back_target(Condition::Panel, rest)
     } else {
         read_back_place(names, words)
     }
 }
 
-/// Returns the search for the last hit.
+/// Returns the search for the last hit before some that are passed over.
 #[tactic(auto, unfolding(crate::specs::Command::IsCommandInRange))]
-fn last_hit(what: Condition) -> Command
-    requires { IsConditionInRange what }
-    ensures command { result ≡ last_hit what }
+fn hit_past(ignore: u64, what: Condition) -> Command
+    requires number { ignore ≤ last_cycle }
+    requires range { IsConditionInRange what }
+    ensures command { result ≡ hit_past ignore what }
     ensures range { IsCommandInRange result }
 {
     Command::BackTo(Search {
         what,
-        count: 1,
+        count: ignore + 1,
         lists: false,
     })
 }
@@ -658,54 +662,69 @@ fn read_back_write(words: &[u8]) -> Result<Command, CommandFault>
 }
 
 /// Parses the word after the channel of a write to search, if there is one.
-#[tactic(auto, unfolding(crate::specs::Command::back_write_of, crate::specs::Command::IsCommandInRange))]
+#[tactic(auto, unfolding(crate::specs::Command::back_write_of))]
 fn read_back_word(channel: u16, words: &[u8]) -> Result<Command, CommandFault>
     ensures back { result ≡ back_write_of channel (words_of words.now) }
     ensures range { IfOk result IsCommandInRange }
 {
     let channel = Some(channel);
     let Some((word, rest)) = next_word(words) else {
-        return Ok(last_hit(Condition::Write {
-            channel,
-            word: None,
-        }));
+        return read_back_target(
+            Condition::Write {
+                channel,
+                word: None,
+            },
+            words,
+        );
     };
+    if is_word(word, "ignore") {
+        return read_back_target(
+            Condition::Write {
+                channel,
+                word: None,
+            },
+            words,
+        );
+    }
     let word = Some(read_word(word)?);
-    alone(
-        last_hit(Condition::Write { channel, word }),
-        CommandName::Back,
-        rest,
-    )
+    read_back_target(Condition::Write { channel, word }, rest)
 }
 
-#[tactic(auto, unfolding(crate::specs::Command::IsCommandInRange))]
 fn read_back_cell(names: &Option<SymbolTable>, words: &[u8]) -> Result<Command, CommandFault>
     ensures back { result ≡ back_cell names.now (words_of words.now) }
     ensures range { IfOk result IsCommandInRange }
 {
-    let word = only_word(CommandName::Back, words)?;
-    let cell = read_cell(names, word)?;
-    Ok(last_hit(Condition::Cell(cell)))
+    let (place, rest) = next_word(words).ok_or(CommandFault::Usage(CommandName::Back))?;
+    let cell = read_cell(names, place)?;
+    read_back_target(Condition::Cell(cell), rest)
 }
 
-#[tactic(auto, unfolding(crate::specs::Command::back_interrupt, crate::specs::Command::IsCommandInRange))]
+#[tactic(auto, unfolding(crate::specs::Command::back_interrupt))]
 fn read_back_interrupt(words: &[u8]) -> Result<Command, CommandFault>
     ensures back { result ≡ back_interrupt (words_of words.now) }
     ensures range { IfOk result IsCommandInRange }
 {
-    if next_word(words).is_none() {
-        return Ok(last_hit(Condition::Interrupt(None)));
+    let Some((name, rest)) = next_word(words) else {
+        return read_back_target(Condition::Interrupt(None), words);
+    };
+    if is_word(name, "ignore") {
+        return read_back_target(Condition::Interrupt(None), words);
     }
-    let word = only_word(CommandName::Back, words)?;
-    let rupt = read_interrupt(word)?;
-    Ok(last_hit(Condition::Interrupt(Some(rupt))))
+    let rupt = read_interrupt(name)?;
+    read_back_target(Condition::Interrupt(Some(rupt)), rest)
 }
 
-#[tactic(auto, unfolding(crate::specs::Command::IsCommandInRange))]
-fn read_back_place(names: &Option<SymbolTable>, words: &[u8]) -> Result<Command, CommandFault>
-    ensures back { result ≡ back_place names.now (words_of words.now) }
+/// Parses the words after what a search back looks for: the hits to pass over.
+#[tactic(auto, unfolding(crate::specs::Command::back_target))]
+pub(crate) fn read_back_target(what: Condition, words: &[u8]) -> Result<Command, CommandFault>
+    requires { IsConditionInRange what }
+    ensures back { result ≡ back_target what (words_of words.now) }
     ensures range { IfOk result IsCommandInRange }
 {
-    let what = read_only_order(names, CommandName::Back, words)?;
-    Ok(last_hit(what))
+    let ignore = read_ignored(CommandName::Back, words)?;
+    alone(
+        hit_past(ignore, what),
+        CommandName::Back,
+        after_ignored(words),
+    )
 }

@@ -35,6 +35,24 @@ fn searches_are_read(rt: HostRuntime) {
 }
 
 #[test]
+fn searches_pass_over_hits(rt: HostRuntime) {
+    let order = Condition::Order(Location::Fixed(0o4001));
+    searches(&rt, b"back until 4001 ignore 1", order, 2);
+    let any = Condition::Write {
+        channel: Some(0o10),
+        word: None,
+    };
+    searches(&rt, b"back until write 10 ignore 0", any, 1);
+    let one = Condition::Write {
+        channel: Some(0o10),
+        word: Some(Narrow::with_bits(0o44017)),
+    };
+    searches(&rt, b"back until write 10 44017 ignore 2", one, 3);
+    let interrupt = Condition::Interrupt(None);
+    searches(&rt, b"back list until interrupt ignore 7", interrupt, 8);
+}
+
+#[test]
 fn steps_by_calls_are_read(rt: HostRuntime) {
     let over = StepCall {
         step: CallStep::Over,

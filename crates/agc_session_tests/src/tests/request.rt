@@ -3,7 +3,7 @@
 use super::console::{asks, reads, refuses};
 use agc_listing::Location;
 use agc_panel::{Table, WatchFault, WatchSpec};
-use agc_repl::{Command, CommandFault, Rewind};
+use agc_repl::{Command, CommandFault, CommandName, Limits, Rewind, Steps};
 use agc_script::{FaultKind, Key, What};
 use agc_session::Condition;
 use agc_symbols::SymbolTable;
@@ -12,7 +12,13 @@ use std::process::Abort;
 
 /// Checks that a line runs until a breakpoint, for at most this many cycles.
 fn asks_until(rt: &impl Abort, line: &[u8], what: Condition, within: u64) {
-    asks(rt, line, Command::Until { what, within });
+    let limits = Limits { ignore: 0, within };
+    asks(rt, line, Command::Until { what, limits });
+}
+
+/// Checks that a line takes boundaries.
+fn asks_step(rt: &impl Abort, line: &[u8], boundaries: u64, cell: Option<u16>) {
+    asks(rt, line, Command::Step(Steps { boundaries, cell }));
 }
 
 /// Checks that a line goes back to a cycle, and drops what was injected from it on.
@@ -37,8 +43,12 @@ fn write_to(channel: u16) -> Condition {
 fn cycles_are_decimal(rt: HostRuntime) {
     asks(&rt, b"go 8533", Command::Go(8533));
     asks(&rt, b"\tgo  to 0010 ", Command::GoTo(10));
-    asks(&rt, b"step", Command::Step(1));
-    asks(&rt, b"step 1000000000000", Command::Step(1_000_000_000_000));
+    asks_step(&rt, b"step", 1, None);
+    asks_step(&rt, b"step 1000000000000", 1_000_000_000_000, None);
+    asks_step(&rt, b"step 12 cell E0,1500", 12, Some(0o100));
+    let usage = CommandFault::Usage(CommandName::Step);
+    refuses(&rt, b"step 12 cell", usage);
+    refuses(&rt, b"step 12 0100", usage);
     asks_back(&rt, b"back 0", 0, false);
     asks_back(&rt, b"back list 12", 12, true);
 }
@@ -77,6 +87,28 @@ fn a_run_goes_until_a_place_a_write_or_a_cell(rt: HostRuntime) {
         1_000_000,
     );
     asks_until(&rt, b"until write 5", write_to(5), 1_000_000);
+}
+
+#[test]
+fn hits_are_ignored_before_the_most_cycles(rt: HostRuntime) {
+    let limits = Limits {
+        ignore: 3,
+        within: 1_000_000,
+    };
+    asks(&rt, b"continue ignore 3", Command::Continue(limits));
+    let what = Condition::Cell(0o100);
+    let limits = Limits {
+        ignore: 12,
+        within: 9,
+    };
+    asks(
+        &rt,
+        b"until cell 0100 ignore 12 within 9",
+        Command::Until { what, limits },
+    );
+    let usage = CommandFault::Usage(CommandName::Continue);
+    refuses(&rt, b"continue ignore", usage);
+    refuses(&rt, b"continue within 9 ignore 3", usage);
 }
 
 #[test]
@@ -156,7 +188,10 @@ fn a_name_stands_for_its_place(rt: HostRuntime) {
 fn goes_until(rt: &impl Abort, names: &Option<SymbolTable>, line: &[u8], place: u32) {
     let command = Command::Until {
         what: Condition::Order(Location::Fixed(place)),
-        within: 1_000_000,
+        limits: Limits {
+            ignore: 0,
+            within: 1_000_000,
+        },
     };
     reads(rt, names, line, Ok(Some(command)));
 }
