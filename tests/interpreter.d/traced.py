@@ -4,6 +4,7 @@ orders that counts, which `sample` prints, and the words of the rope's file.
 
 import csv
 import os
+import re
 import subprocess
 from fractions import Fraction
 
@@ -26,7 +27,14 @@ def _names_by_codes():
     return found
 
 
+def _names_in(names, mode):
+    """Those of a code's names that are right for MODE: some codes have a name for a scalar and one for a vector."""
+    is_vector = whole(mode) < 0
+    return {name for name in names if bool(VECTOR.fullmatch(name)) == is_vector} or names
+
+
 NAMES = _names_by_codes()
+VECTOR = re.compile(r"VCOMP|ABVAL|VS[LR][1-8*]?")
 STORES = {0: "STORE", 1: "STORE", 2: "STORE", 3: "STODL", 4: "STODL*", 5: "STOVL", 6: "STOVL*", 7: "STCALL"}
 
 
@@ -94,7 +102,7 @@ def operations(rope, limit, folder):
                 waiting, names = None, {STORES[word >> 11]}
         else:
             names, waiting = waiting, None
-        begun = row["cycle"], place, names, held(row), row["push"]
+        begun = row["cycle"], place, _names_in(names, row["mode"]), held(row), row["push"]
         if names == {"EXIT"}:
             yield (*begun[:4], held(row), begun[4])
             begun = None

@@ -5,7 +5,7 @@ ghost use Rattle.agc_analysis.specs.Ended.{EndsWith};
 use crate::fault::{AnalysisFault, FAULTY};
 use crate::inputs::read_symbols;
 use crate::interpreter::interpreter_named;
-use crate::operations::{OperationPlan, operation_files};
+use crate::operations::{OperationPlan, OperationsEnd, operation_files};
 use crate::remarks::{remark_on_start, stop_of};
 use crate::streams::Streams;
 use crate::traces::status_of_trace_error;
@@ -17,8 +17,12 @@ use std::alloc::Global;
 use std::io::{Read, Write};
 use std::rt::Files;
 
+const NONE_BEGAN: &str =
+    "agc-study: no operation began in these cycles; the places of --interpretive may be those of another rope\n";
+
 /// Writes the operations of the run of two files. A value of `--interpretive` that does not name the interpreter's places and
-/// cells, with the symbol file in use, is reported as a command-line error. A remark warns if the run stops before the range.
+/// cells, with the symbol file in use, is reported as a command-line error. A remark warns if the run stops before the range, or
+/// if no operation was written.
 pub fn run_operations<R, W: Write, E: Write, N: Write, P: ProgressLine>(
     rt: &R,
     args: &mut OperationsArgs,
@@ -72,10 +76,18 @@ fn write_run<R: Read, W: Write, E: Write, N: Write, P: ProgressLine>(
     );
     io.progress.wipe();
     match written {
-        Ok(machine) => {
+        Ok(OperationsEnd { machine, is_empty }) => {
             remark_on_start(stop_of(&machine), args.span.from, &mut io.remarks);
+            remark_on_nothing(is_empty, &mut io.remarks);
             OK
         }
         Err(error) => status_of_trace_error(error, &mut io.err),
+    }
+}
+
+/// Warns if no operation was written.
+fn remark_on_nothing<N: Write>(is_empty: bool, remarks: &mut N) {
+    if is_empty {
+        let _written = remarks.write_all(NONE_BEGAN.as_bytes());
     }
 }

@@ -67,6 +67,30 @@ impl Interpreter {
             None
         }
     }
+
+    /// Returns the part of the option's value that names what another part names, if there is one.
+    fn repeated(&self) -> Option<&'static str> {
+        if self.fetch == self.end {
+            Some("FETCH")
+        } else if self.begin == self.end || self.begin == self.fetch {
+            Some("OPJUMP")
+        } else if self.mode == self.word {
+            Some("MODE")
+        } else if self.has_in_mpac(self.word) || self.has_in_mpac(self.mode) {
+            Some("MPAC")
+        } else if self.has_in_mpac(self.push_down)
+            || self.push_down == self.word
+            || self.push_down == self.mode
+        {
+            Some("PUSHLOC")
+        } else {
+            None
+        }
+    }
+
+    fn has_in_mpac(&self, cell: u16) -> bool {
+        self.mpac <= cell && cell <= self.mpac.saturating_add(LAST_OF_MPAC)
+    }
 }
 
 /// Resolves the value of `--interpretive`. One that does not name what it should is a command-line error.
@@ -106,7 +130,7 @@ fn interpreter_in(names: &Option<SymbolTable>, parts: &[&str]) -> Result<Interpr
             why: "it has seven cells",
         });
     }
-    Ok(Interpreter {
+    let interpreter = Interpreter {
         end,
         fetch,
         begin,
@@ -114,7 +138,14 @@ fn interpreter_in(names: &Option<SymbolTable>, parts: &[&str]) -> Result<Interpr
         mode,
         mpac: accumulator,
         push_down,
-    })
+    };
+    match interpreter.repeated() {
+        Some(part) => Err(Misnamed {
+            part,
+            why: "another part names this place; MPAC has seven cells",
+        }),
+        None => Ok(interpreter),
+    }
 }
 
 fn push_part<'a>(parts: &mut Vec<&'a str>, part: &'a str) -> Result<(), AllocError> {
@@ -156,7 +187,7 @@ fn cell_named(
 fn unknown(part: &'static str) -> Misnamed {
     Misnamed {
         part,
-        why: "no such place: octal, 4110 or 0164, or a name of --names",
+        why: "no such place: octal, 4110 or 0164; a name needs --names FILE",
     }
 }
 

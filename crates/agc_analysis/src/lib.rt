@@ -31,6 +31,7 @@ mod inputs;
 mod interpreter;
 mod interpretive_list;
 mod new_files;
+mod operation_names;
 mod operations;
 mod remarks;
 mod rope_bytes;

@@ -3,6 +3,7 @@ ghost use Rattle.std.specs.Prelude.{IfErr};
 ghost use Rattle.agc_analysis.specs.Sampled.{KeepsIfRefused};
 
 use crate::interpreter::{Interpreter, Passing};
+use crate::operation_names::named_for;
 use crate::traces::TraceError;
 use agc_io::{Progress, report_at, write_in_full};
 use agc_listing::{Cell, Location, location_in, push_rope_place};
@@ -38,6 +39,12 @@ struct Accumulator {
     words: [Narrow; 7],
 }
 
+impl Accumulator {
+    fn is_vector(&self) -> bool {
+        self.mode.is_minus() && self.mode.magnitude() != 0
+    }
+}
+
 /// An operation that has begun.
 #[derive(Drop)]
 struct Begun {
@@ -70,9 +77,16 @@ struct Follower<'a> {
     is_fetched: bool,
 }
 
-/// Reads a rope and a script, and writes the operations of their run. Returns the machine at the end of the run. Fails with
-/// the first fault, checked in this order: rope, script, limit, `--until`; or if memory runs out. Nothing is written in
-/// that case.
+/// The end of a run whose operations were written.
+#[derive(Drop)]
+pub(crate) struct OperationsEnd {
+    pub machine: Machine,
+    /// Whether no operation was written.
+    pub is_empty: bool,
+}
+
+/// Reads a rope and a script, and writes the operations of their run. Fails with the first fault, checked in this order: rope,
+/// script, limit, `--until`; or if memory runs out. Nothing is written in that case.
 pub(crate) fn operation_files<R: Read, W: Write, P: Progress>(
     alloc: Global,
     options: &RunOptions,
@@ -80,7 +94,7 @@ pub(crate) fn operation_files<R: Read, W: Write, P: Progress>(
     inputs: &mut RunInputs<R>,
     out: &mut W,
     progress: &mut P,
-) -> Result<Machine, TraceError>
+) -> Result<OperationsEnd, TraceError>
     ensures { IfErr result (KeepsIfRefused (W.contents out.old) (W.contents out.new)) }
 {
     let mut machine = match read_machine(alloc, options, inputs) {
@@ -88,19 +102,19 @@ pub(crate) fn operation_files<R: Read, W: Write, P: Progress>(
         Err(refusal) => return Err(TraceError::Refused(refusal)),
     };
     match write_operations(alloc, plan, &mut machine, out, progress) {
-        Ok(()) => Ok(machine),
+        Ok(is_empty) => Ok(OperationsEnd { machine, is_empty }),
         Err(fault) => Err(TraceError::Cut(fault)),
     }
 }
 
-/// Writes each operation as it ends, so that memory does not grow with the run.
+/// Writes each operation as it ends, so that memory does not grow with the run. Returns whether there was none.
 fn write_operations<W: Write, P: Progress>(
     alloc: Global,
     plan: &OperationPlan,
     machine: &mut Machine,
     out: &mut W,
     progress: &mut P,
-) -> Result<(), TraceFault> {
+) -> Result<bool, TraceFault> {
     let (interpreter, span) = (plan.interpreter, plan.span);
     let mut follower = Follower {
         interpreter,
@@ -111,6 +125,7 @@ fn write_operations<W: Write, P: Progress>(
         is_fetched: false,
     };
     let mut text = String::new(alloc);
+    let mut is_empty = true;
     let mut mark = 0u64;
     for _boundary in 0..u64::MAX {
         if machine.cycle() > span.to {
@@ -119,6 +134,7 @@ fn write_operations<W: Write, P: Progress>(
         if let Some(passing) = interpreter.passing(machine.upcoming()) {
             text.clear();
             follower.pass(alloc, passing, machine, &mut text)?;
+            is_empty = is_empty && text.is_empty();
             write_text(&text, out)?;
         }
         match machine.step(None) {
@@ -130,7 +146,8 @@ fn write_operations<W: Write, P: Progress>(
     }
     text.clear();
     follower.end(None, &mut text)?;
-    write_text(&text, out)
+    write_text(&text, out)?;
+    Ok(is_empty && text.is_empty())
 }
 
 fn write_text<W: Write>(text: &String, out: &mut W) -> Result<(), TraceFault> {
@@ -167,7 +184,7 @@ impl<'a> Follower<'a> {
                     },
                 ) => {
                     self.end(Some(machine.store()), text)?;
-                    self.begin(place, operation, machine, text)
+                    self.begin(alloc, place, operation, machine, text)
                 }
                 None => Ok(()),
             },
@@ -195,12 +212,13 @@ impl<'a> Follower<'a> {
             Some(text) => Some(Right { place, text }),
             None => None,
         };
-        self.begin(place, left, machine, text)
+        self.begin(alloc, place, left, machine, text)
     }
 
     /// Notes that an operation begins. EXIT ends at once: basic orders come behind it.
     fn begin(
         &mut self,
+        alloc: Global,
         place: usize,
         operation: String,
         machine: &Machine,
@@ -208,11 +226,12 @@ impl<'a> Follower<'a> {
     ) -> Result<(), AllocError> {
         let store = machine.store();
         let is_exit = operation.as_str() == "EXIT";
+        let before = accumulator_in(&self.interpreter, store);
         self.begun = Some(Begun {
             cycle: machine.cycle(),
             place,
-            text: operation,
-            before: accumulator_in(&self.interpreter, store),
+            text: named_for(alloc, operation, before.is_vector())?,
+            before,
             push_down: word_at(self.interpreter.push_down, store),
         });
         if is_exit {
@@ -259,7 +278,7 @@ fn push_accumulator(text: &mut String, held: Accumulator) -> Result<(), AllocErr
             Kind::Double(FRACTION),
             [first, second, third, fourth, fifth, sixth],
         )
-    } else if held.mode.is_minus() {
+    } else if held.is_vector() {
         (
             Kind::Vector(FRACTION),
             [first, second, fourth, fifth, sixth, seventh],
