@@ -9,35 +9,45 @@ import ctypes
 import os
 import select
 import signal
+import stat
 import subprocess
 import sys
 from contextlib import suppress
-from pathlib import Path
 
 LAST = (b"at ", b"stop ", b"error: ")  # how the last line of an answer begins
 PR_SET_PDEATHSIG = 1
 
 
 def say(text):
-    """Prints a line, also in a handler of a signal."""
+    """Prints a line; also safe in a signal handler."""
     os.write(1, f"{text}\n".encode())
 
 
 def hint(*_):
-    """Control-C while no command runs."""
-    say("\nquit ends the program")
+    """Answers Control-C while no command runs."""
+    say("")
+    say("quit ends the program")
 
 
 def prepare():
-    """Begins the new process: it ignores Control-C, and ends with this process."""
+    """Has the new process ignore Control-C, and end with this process."""
     signal.signal(signal.SIGINT, signal.SIG_IGN)
     ctypes.CDLL(None).prctl(PR_SET_PDEATHSIG, signal.SIGKILL)
 
 
+def stamp(word):
+    """Returns when the file that a word names was last changed, or None if there is none. A pipe, which cannot be read again, counts as
+    changed."""
+    try:
+        state = os.stat(word.partition("=")[2] if word.startswith("--") and "=" in word else word)
+    except OSError:
+        return None
+    return object() if stat.S_ISFIFO(state.st_mode) else state.st_mtime_ns
+
+
 def stamps(words):
-    """Returns when each file of a command line was changed last. A pipe, which cannot be read again, counts as changed."""
-    paths = [Path(word.rpartition("=")[2]) for word in words]
-    return [object() if path.is_fifo() else path.stat().st_mtime_ns for path in paths if path.exists()]
+    """Returns the stamp of each word of a command line."""
+    return [stamp(word) for word in words]
 
 
 class Session:
@@ -48,14 +58,14 @@ class Session:
         self.start()
 
     def start(self):
-        """Starts the program, and repeats the lines in it. Meanwhile Control-C ends this process."""
+        """Starts the program, and repeats the lines in it. Until it has answered them, Control-C ends this process."""
         signal.signal(signal.SIGINT, signal.SIG_DFL)
         if self.lines:
             say("repeating the session up to this command")
         self.program = subprocess.Popen(
             self.command, stdin=subprocess.PIPE, stdout=subprocess.PIPE, close_fds=False, preexec_fn=prepare
         )
-        for line in self.lines:
+        for line in (b"#\n", *self.lines):
             list(self.answer(line))
         self.was_ended = False
         signal.signal(signal.SIGINT, hint)
@@ -70,13 +80,13 @@ class Session:
                 return
 
     def end_command(self, *_):
-        """Control-C while a command runs."""
+        """Ends the running command at Control-C."""
         say("")
         self.was_ended = True
         self.program.kill()
 
     def take(self, line):
-        """Passes on a line of the user, and prints its answer. A comment stands for `save`, which a new program would refuse."""
+        """Passes on a user's line and prints its answer. Keeps a comment instead of `save`, which a new program would refuse."""
         signal.signal(signal.SIGINT, self.end_command)
         for part in self.answer(line):
             if part.startswith(LAST):
@@ -94,9 +104,10 @@ class Session:
         """Brings a new program to the state before the command."""
         self.program.wait()
         self.start()
-        is_same = stamps(self.command) == self.stamps
-        state = "is as it was before it" if is_same else "may differ: one of its files has changed, or cannot be read again"
-        say(f"the command was ended; the session {state}")
+        if stamps(self.command) == self.stamps:
+            say("the command was ended; the session is as it was before it")
+        else:
+            say("the command was ended; the session may differ: one of its files has changed, or cannot be read again")
 
     def run(self):
         """Takes lines until the input or the program ends. Returns the status of the program."""

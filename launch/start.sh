@@ -1,7 +1,7 @@
 # shellcheck shell=bash disable=SC2154 # sourced by a launcher, which sets top (the repository) and name
-# Runs the program $name. On a terminal agc-console runs under console.py, for Control-C, and that under rlwrap, for a prompt,
-# line editing and the completion of its words and of the names in --names, if Python 3 and rlwrap are installed. One word, such as
-# --help, begins no session. agc-dsky runs by terminal.sh; without a terminal it prints an error or its help.
+# Runs the program $name. On a terminal agc-console runs under console.py for Control-C, if there is Python 3, and under rlwrap
+# for a prompt, line editing and the completion of its words and of the names in --names, if that is installed. A single argument,
+# such as --help, begins no session. agc-dsky runs by terminal.sh; without a terminal it prints an error or its help.
 # shellcheck source=launch/fit.sh
 . "$top/launch/fit.sh"
 ready || exit
@@ -9,7 +9,10 @@ case $name in
 agc-console)
     if [ -t 0 ] && [ -t 1 ] && [ $# -gt 1 ]; then
         command=("$program")
-        ! python3 -I -c 'import ctypes' 2>/dev/null || command=(python3 -I "$top/launch/console.py" "$program" --terminal)
+        if python3 -I -c 'import ctypes' 2>/dev/null; then
+            command=(python3 -I "$top/launch/console.py" "$program")
+            case " $* " in *' --terminal '*) ;; *) command+=(--terminal) ;; esac
+        fi
         command -v rlwrap >/dev/null || exec "${command[@]}" "$@"
         completed=(--file "$top/launch/console.words")
         for ((each = 1; each <= $#; each++)); do

@@ -513,8 +513,8 @@ class Console:
             self.passed += self._run(command)
 
     def step(self, boundaries: int = 1, *, cell: Optional[Place] = None) -> List[str]:
-        """So many boundaries, each an order, an event, a timer's step or an interrupt. Returns their lines, as
-        `agc-study trace` prints them; with `cell`, only those of boundaries that change it, each with the cell's line after it."""
+        """Takes a number of boundaries, each an order, an event, a timer's step or an interrupt. Returns their lines, as
+        `agc-study trace` prints them; with `cell`, only the lines of boundaries that change it, each followed by the cell's line."""
         return self.say(f"step {boundaries}" + ("" if cell is None else f" cell {_place(cell)}")).lines
 
     def over(self, within: Optional[int] = None, *, job: Optional[Place] = None) -> Came:
@@ -533,7 +533,7 @@ class Console:
 
     def until(self, place: Place, within: Optional[int] = None, *, condition: Optional[str] = None, ignore: int = 0) -> Came:
         """Runs until the order at a place is in hand, with a condition such as "COUNT < 5" only while that holds; 1,000,000
-        cycles at most, or as many as are named. With `ignore` it passes over so many hits, as the other runs to a hit do."""
+        cycles at most, or as many as are named. With `ignore` it passes over this number of hits; the other runs to a hit do, too."""
         return self._until(_order(place, condition), ignore, within)
 
     def until_write(self, channel: int, within: Optional[int] = None, *, ignore: int = 0) -> Came:
@@ -588,7 +588,7 @@ class Console:
 
     def continue_(self, within: Optional[int] = None, *, ignore: int = 0) -> Hit:
         """Runs to the first breakpoint that is hit; 1,000,000 cycles at most, or as many as are named. It takes one boundary
-        at least, so that it leaves the place at which it stopped before. With `ignore` it passes over so many hits."""
+        at least, so that it leaves the place at which it stopped before. With `ignore` it passes over this number of hits."""
         answer = self.say(f"continue{_limits(ignore, within)}")
         hits = [line for line in answer.lines if line.startswith("hit ")]
         return Hit(None if hits == ["hit none"] else _breakpoint(hits[0]), _writes(answer.lines))
@@ -622,7 +622,7 @@ class Console:
     def back_until(self, place: Place, *, condition: Optional[str] = None, ignore: int = 0) -> bool:
         """Goes back to the last time that the order at a place was in hand, with a condition as for `break_at` while that held.
         The methods `back_until_..` and `back_step` drop the events injected after that cycle, and return whether there was one
-        before now; if not, they change nothing. With `ignore` they pass over so many hits."""
+        before now; if not, they change nothing. With `ignore` they pass over this number of hits."""
         return self._back(f"until {_order(place, condition)}{_limits(ignore)}")
 
     def back_until_write(self, channel: int, word: Optional[int] = None, *, ignore: int = 0) -> bool:
@@ -848,7 +848,7 @@ def _place(place: Place) -> str:
 
 
 def _limits(ignore: int, within: Optional[int] = None) -> str:
-    """The hits that a run passes over, and its most cycles, as far as they are not those of a run without them."""
+    """Returns `ignore N` and `within N` for a command, each only if it is not the default."""
     return (f" ignore {ignore}" if ignore else "") + ("" if within is None else f" within {within}")
 
 

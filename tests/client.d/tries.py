@@ -186,6 +186,17 @@ def try_until():
         judge("what does not come", Came(False, []), agc.until("4100", within=0))
         writes = [Write(654, 0o11, 1), Write(1508, 0o11, 2)]
         judge("the second write", (Came(True, writes), 1510), (agc.until_write(0o11, ignore=1), agc.cycle))
+        judge("the first again", (True, 654), (agc.back_until_write(0o11, ignore=1), agc.cycle))
+        agc.back(0)
+        line, cell = agc.step(1600, cell="100")[-2:]
+        judge("what changes a cell", ("1499 4100", "cell 0100 00002"), (line[:9], cell))
+        judge("back to its first change", (True, 645), (agc.back_until_cell("100", ignore=1), agc.cycle))
+        judge("to its second", (True, 1501), (agc.until_cell("100", ignore=1).came, agc.cycle))
+        judge("back to an order", (True, 645), (agc.back_until("4100", ignore=1), agc.cycle))
+        judge("and to the next but one", (True, 2352), (agc.until("4100", ignore=1).came, agc.cycle))
+        number = agc.break_at("4100")
+        agc.back(0)
+        judge("past a breakpoint", (number, 1499), (agc.continue_(ignore=1).breakpoint, agc.cycle))
     with example("division", limit=100, form="classic") as agc:
         judge("until the stop", Came(False, [Write(3, 0o10, 2)]), agc.until_write(0o11))
         judge("the stop", ("DivisionUndefined", 6), (agc.stop, agc.cycle))

@@ -5,6 +5,7 @@ import os
 import pty
 import re
 import select
+import shutil
 import signal
 import struct
 import termios
@@ -25,12 +26,12 @@ INTERRUPT, END_OF_INPUT = "\3", "\4"
 class Terminal:
     """The launcher on a terminal of its own, which makes a signal of Control-C. Its processes are known by a mark."""
 
-    def __init__(self, path):
+    def __init__(self, path, rope=ROPE):
         self.mark, self.shown = f"{os.getpid()}.{time.monotonic_ns()}", ""
         self.pid, self.master = pty.fork()
         if self.pid == 0:
             fcntl.ioctl(0, termios.TIOCSWINSZ, struct.pack("HHHH", 24, 80, 0, 0))
-            os.execve(CONSOLE, [CONSOLE, ROPE, os.devnull], {**os.environ, "PATH": path, "TERM": "dumb", "TRY": self.mark})
+            os.execve(CONSOLE, [CONSOLE, rope, os.devnull], {**os.environ, "PATH": path, "TERM": "dumb", "TRY": self.mark})
 
     def until(self, pattern):
         """Waits until this is shown. Returns its match; what comes behind it is shown next."""
@@ -88,8 +89,8 @@ class Terminal:
 
 
 def kinds():
-    """Returns the ways to start it: with rlwrap, if that is installed, and with a stand-in that does nothing. Only a launcher
-    handles Control-C."""
+    """Returns the ways to start it: with rlwrap, if that is installed, and with a stand-in for it. Only a launcher handles
+    Control-C."""
     if not (Path(CONSOLE).parent / "launch" / "console.py").exists():
         print("skipped: Control-C, because this agc-console has no launcher")
         return []
@@ -117,6 +118,13 @@ def try_session(kind, path):
     judge(f"{kind}: Control-C at the prompt", before, terminal.looks())
     terminal.type("quit\n")
     judge(f"{kind}: quit", 0, terminal.end())
+    terminal = Terminal(path, shutil.copy(ROPE, saved))
+    terminal.begin()
+    os.utime(saved, (0, 0))
+    terminal.type(INTERRUPT)
+    terminal.until("the session may differ")
+    terminal.type("quit\n")
+    judge(f"{kind}: a file that has changed", 0, terminal.end())
 
 
 def try_ends(kind, path):

@@ -507,9 +507,8 @@ class Choices:
             return f"{self.a_call_step()} {self.dice.choice([within, 'within 800'])}"
         commands = [
             f"go {self.dice.choice([0, 1, 2, 13, 200, 853])}", "step", f"step {self.dice.randrange(30)}", f"step {self.dice.randrange(300)} cell {self.a_cell()}",
-            f"until {self.an_order()} {limits}", f"until {self.a_write().split(' ')[1]} {limits}", f"until cell {self.a_cell()} {limits}",
+            f"until {self.an_order()} {limits}", f"until {' '.join(self.a_write().split()[:2])} {limits}", f"until cell {self.a_cell()} {limits}",
         ]
-        commands[5] = f"until write {commands[5][len('until ') :]}"
         return self.dice.choice(commands) if self.dice.random() < 0.5 else f"continue {limits}"
 
     def a_search(self, cycle):
