@@ -82,5 +82,5 @@ fn terminal_option<'a>(alloc: Global) -> Arg<'a> {
     Arg::new(alloc, "terminal")
         .long("terminal")
         .action(ArgAction::SetTrue)
-        .help("Answer as at a terminal, also if input and output are none")
+        .help("Answer as at a terminal, even in a pipe")
 }

@@ -4,15 +4,15 @@ use Rattle.std.specs.Io.KnownBytes.{Appends, append_known}
 use Rattle.std.proofs.Common.{refl, ap, sym, subst, ◌∙◌, inl, inr}
 use Rattle.std.proofs.KnownBytes.{Appends-trans}
 use Rattle.std.proofs.lemmas.Bool.{eq-eqb, eqb-true}
-use Rattle.agc_repl.specs.Fault.{fault_text_with}
-use Rattle.agc_repl.specs.declared.command.Command.{Command}
-use Rattle.agc_repl.specs.declared.command.Command.TheVariants as command
-use Rattle.agc_repl.specs.declared.command.Limits.{Limits}
-use Rattle.agc_repl.specs.declared.command.Steps.{Steps}
+use Rattle.agc_command.specs.Fault.{fault_text_with}
+use Rattle.agc_command.specs.declared.command.Command.{Command}
+use Rattle.agc_command.specs.declared.command.Command.TheVariants as command
+use Rattle.agc_command.specs.declared.command.Limits.{Limits}
+use Rattle.agc_command.specs.declared.command.Steps.{Steps}
 use Rattle.agc_repl.specs.Changes.{step_text}
-use Rattle.agc_repl.specs.declared.command.Rewind.{Rewind}
-use Rattle.agc_repl.specs.declared.fault.CommandFault.{CommandFault}
-use Rattle.agc_repl.specs.Command.{IsBreakpointInRange, IsCommandInRange}
+use Rattle.agc_command.specs.declared.command.Rewind.{Rewind}
+use Rattle.agc_command.specs.declared.fault.CommandFault.{CommandFault}
+use Rattle.agc_command.specs.Command.{IsBreakpointInRange, IsCommandInRange}
 use Rattle.agc_script.specs.Event.{IsWhatInRange, most_events}
 use Rattle.agc_script.specs.declared.event.What.{What}
 use Rattle.agc_session.specs.Condition.{armed_in}

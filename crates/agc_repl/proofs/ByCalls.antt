@@ -16,11 +16,11 @@ use Rattle.agc_session.specs.declared.condition.Condition.{Condition}
 use Rattle.agc_session.specs.declared.condition.Condition.TheVariants as condition
 use Rattle.agc_store.specs.Memory.{Memory}
 use Rattle.agc_repl.specs.Answered.{IsAnswered, IsHandled, answer_to, answered, call_request, call_search}
-use Rattle.agc_repl.specs.Command.{IsBreakpointInRange, IsCommandInRange, IsJobCell}
-use Rattle.agc_repl.specs.declared.command.BackCall.{BackCall}
-use Rattle.agc_repl.specs.declared.command.Command.TheVariants as command
-use Rattle.agc_repl.specs.declared.command.Search.{Search}
-use Rattle.agc_repl.specs.declared.command.StepCall.{StepCall}
+use Rattle.agc_command.specs.Command.{IsBreakpointInRange, IsCommandInRange, IsJobCell}
+use Rattle.agc_command.specs.declared.command.BackCall.{BackCall}
+use Rattle.agc_command.specs.declared.command.Command.TheVariants as command
+use Rattle.agc_command.specs.declared.command.Search.{Search}
+use Rattle.agc_command.specs.declared.command.StepCall.{StepCall}
 use Rattle.agc_repl.specs.declared.repl.Repl.{Repl}
 use Rattle.agc_symbols.specs.Symbols.{Symbol}
 

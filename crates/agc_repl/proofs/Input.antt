@@ -9,9 +9,9 @@ use Rattle.std.proofs.lemmas.Bool.Decides.{leb_tells, nat_tests}
 use Rattle.std.proofs.lemmas.List.Elements.{All-nil, All-push}
 use Rattle.std.proofs.lemmas.List.Splits.{length-slice_split, slice_split_at, slice_split_none}
 use Rattle.std.proofs.lemmas.List.{length-take, length-take-le, length_push, take-append-le, take_all}
-use Rattle.agc_repl.specs.Command.{request_of}
-use Rattle.agc_repl.specs.declared.command.Command.TheVariants as command
-use Rattle.agc_repl.specs.declared.fault.CommandFault.TheVariants as fault
+use Rattle.agc_command.specs.Command.{request_of}
+use Rattle.agc_command.specs.declared.command.Command.TheVariants as command
+use Rattle.agc_command.specs.declared.fault.CommandFault.TheVariants as fault
 use Rattle.agc_script.specs.Line.{longest_line}
 use Rattle.agc_word.specs.Text.{is_line_feed, lines_of, without_empty_end}
 use Rattle.agc_repl.specs.Answered.{Request}

@@ -1,5 +1,4 @@
 pub mod Remaining
-pub mod Ascii
 pub mod Beginning
 pub mod Answering
 pub mod Cells
@@ -8,7 +7,6 @@ pub mod Going
 pub mod Input
 pub mod Searching
 pub mod ByCalls
-pub mod Nearby
 pub mod Sessions
 pub mod Stepping
 pub mod Telling

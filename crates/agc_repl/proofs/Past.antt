@@ -11,7 +11,7 @@ use Rattle.agc_session.specs.declared.condition.Armed.{Armed}
 use Rattle.agc_session.specs.declared.condition.Condition.{Condition}
 use Rattle.agc_trace.proofs.Lines.{IsWritten, nothing_written, written_more, written_whole}
 use Rattle.agc_repl.specs.Answered.{Begins, Grows}
-use Rattle.agc_repl.specs.Command.{IsBreakpointInRange}
+use Rattle.agc_command.specs.Command.{IsBreakpointInRange}
 use Rattle.agc_repl.specs.Repl.{after_run, armed_anew, gone_on, run_of, run_past, then_run}
 use Rattle.agc_repl.specs.Settings.{AreInRange}
 use Rattle.agc_repl.specs.declared.settings.Numbered.{Numbered}

@@ -24,7 +24,7 @@ use Rattle.agc_session.specs.declared.condition.Armed.{Armed}
 use Rattle.agc_session.specs.declared.condition.Condition.{Condition}
 use Rattle.agc_session.specs.declared.condition.Condition.TheVariants as condition
 use Rattle.agc_trace.proofs.Lines.{IsWritten, nothing_written, written_more, written_whole}
-use Rattle.agc_repl.specs.Command.{IsBreakpointInRange}
+use Rattle.agc_command.specs.Command.{IsBreakpointInRange}
 use Rattle.agc_repl.specs.Repl.{Advances, after_run, counted, gone_on, run_of, turns_left}
 use Rattle.agc_repl.specs.Run.{AreSound, Run, armed_by, is_short_of, no_run, run_from, run_line, run_on, run_to, run_within, writes_text}
 use Rattle.agc_repl.specs.Settings.{AreInRange}

@@ -3,14 +3,14 @@ use Rattle.std.specs.Prelude.{◌≡◌, ◌<◌, ℕ, List, [], Option, None, S
 use Rattle.std.specs.Io.KnownBytes.{Appends}
 use Rattle.std.proofs.Common.{refl, ap, sym, subst, ◌∙◌, inl, inr}
 use Rattle.agc_repl.specs.Answered.{IsAnswered, IsHandled, IsItself, Means, Request, cycle_after, missed, request_saved}
-use Rattle.agc_repl.specs.Command.{IsCommandInRange}
-use Rattle.agc_repl.specs.declared.command.Command.{Command}
-use Rattle.agc_repl.specs.declared.command.Command.TheVariants as command
-use Rattle.agc_repl.specs.declared.command.Search.{Search}
-use Rattle.agc_repl.specs.declared.fault.CommandFault.{CommandFault}
-use Rattle.agc_repl.specs.declared.file_name.FileName.{FileName}
+use Rattle.agc_command.specs.Command.{IsCommandInRange}
+use Rattle.agc_command.specs.declared.command.Command.{Command}
+use Rattle.agc_command.specs.declared.command.Command.TheVariants as command
+use Rattle.agc_command.specs.declared.command.Search.{Search}
+use Rattle.agc_command.specs.declared.fault.CommandFault.{CommandFault}
+use Rattle.agc_command.specs.declared.file_name.FileName.{FileName}
 use Rattle.agc_repl.specs.declared.repl.Repl.{Repl}
-use Rattle.agc_repl.specs.declared.saver.SaveFault.{SaveFault}
+use Rattle.agc_command.specs.declared.save_fault.SaveFault.{SaveFault}
 use Rattle.agc_session.specs.Condition.{IsConditionInRange, IsFoundBack}
 use Rattle.agc_session.specs.declared.condition.Condition.{Condition}
 use Rattle.agc_repl.proofs.Answering.{ran_out}
@@ -44,8 +44,8 @@ found_handled names search cut cycle s t old new e h k = inl (
 )
 
 pub missed_handled : (names : Option (List Symbol)) (search : Search) (s t : Repl) (old new : Option (List ℕ)) → IsFoundBack search.what search.count s.session None
-    → IsAnswered names (Err (missed search.what)) s t old new → IsHandled names (Ok (Some (command.BackTo search))) s t old new
-missed_handled names search s t old new h k = inl (Err (missed search.what), (None, h, refl), k)
+    → IsAnswered names (Err (missed search)) s t old new → IsHandled names (Ok (Some (command.BackTo search))) s t old new
+missed_handled names search s t old new h k = inl (Err (missed search), (None, h, refl), k)
 
 pub short_handled : (names : Option (List Symbol)) (search : Search) (s t : Repl) (old new : Option (List ℕ))
     → (t ≡ s) × Appends old new (codes "error: memory\n") → IsHandled names (Ok (Some (command.BackTo search))) s t old new

@@ -1,16 +1,16 @@
 -- The answer to each request: the state that it leads to and the lines it prints.
 use Rattle.std.specs.Prelude.{◌≡◌, ◌⊎◌, ℕ, ◌+◌, ◌-◌, ◌^◌, ◌==◌, nat_le, min, length, is_some, Bool, List, [], ◌∷◌, ◌++◌, Option, None, Some, Result, Ok, Err, if◌then◌else◌, codes, flat_map}
 use Rattle.std.specs.Io.KnownBytes.{Appends}
-use Rattle.agc_repl.specs.Fault.{fault_text_with}
-use Rattle.agc_repl.specs.declared.command.BackCall.{BackCall}
-use Rattle.agc_repl.specs.declared.command.Command.{Command}
-use Rattle.agc_repl.specs.declared.command.Limits.{Limits}
-use Rattle.agc_repl.specs.declared.command.Rewind.{Rewind}
-use Rattle.agc_repl.specs.declared.command.Search.{Search}
-use Rattle.agc_repl.specs.declared.command.StepCall.{StepCall}
-use Rattle.agc_repl.specs.declared.command.Command.TheVariants as command
-use Rattle.agc_repl.specs.declared.fault.CommandFault.{CommandFault}
-use Rattle.agc_repl.specs.declared.fault.CommandFault.TheVariants as invalid
+use Rattle.agc_command.specs.Fault.{fault_text_with}
+use Rattle.agc_command.specs.declared.command.BackCall.{BackCall}
+use Rattle.agc_command.specs.declared.command.Command.{Command}
+use Rattle.agc_command.specs.declared.command.Limits.{Limits}
+use Rattle.agc_command.specs.declared.command.Rewind.{Rewind}
+use Rattle.agc_command.specs.declared.command.Search.{Search}
+use Rattle.agc_command.specs.declared.command.StepCall.{StepCall}
+use Rattle.agc_command.specs.declared.command.Command.TheVariants as command
+use Rattle.agc_command.specs.declared.fault.CommandFault.{CommandFault}
+use Rattle.agc_command.specs.declared.fault.CommandFault.TheVariants as invalid
 use Rattle.agc_script.specs.Event.{most_events}
 use Rattle.agc_script.specs.declared.event.What.{What}
 use Rattle.agc_session.specs.Calls.{ahead, back}
@@ -30,9 +30,9 @@ use Rattle.agc_repl.specs.Queries.{shown_text}
 use Rattle.agc_repl.specs.Settings.{breakpoint_line, has_number, is_full, next_numbered, with_breakpoint, without_number}
 use Rattle.agc_repl.specs.Repl.{RunsOn, after_boundaries, after_due, after_run, all_armed, gone_back, run_of, run_past, takes_event}
 use Rattle.agc_repl.specs.Run.{Run, stop_line, writes_text}
-use Rattle.agc_repl.specs.declared.file_name.FileName.{FileName}
+use Rattle.agc_command.specs.declared.file_name.FileName.{FileName}
 use Rattle.agc_repl.specs.declared.repl.Repl.{Repl}
-use Rattle.agc_repl.specs.declared.saver.SaveFault.{SaveFault}
+use Rattle.agc_command.specs.declared.save_fault.SaveFault.{SaveFault}
 use Rattle.agc_symbols.specs.Symbols.{Symbol}
 
 -- a parsed line: a command or its fault
@@ -147,9 +147,12 @@ unfoldable pub quiet_answer : Bool → Repl → Answer
 quiet_answer quiet t = ended (record t { settings = record t.settings { quiet = quiet } }, [])
 
 -- the fault of a search back that finds nothing
-unfoldable pub missed : Condition → CommandFault
-missed condition.Boundary = invalid.TooFarBack
-missed what = invalid.NotHit
+abbrev pub missed_hit : Condition → ℕ → CommandFault
+missed_hit condition.Boundary count = invalid.TooFarBack
+missed_hit what count = if count == 1 then invalid.NotHit else invalid.TooFewHits
+
+unfoldable pub missed : Search → CommandFault
+missed search = missed_hit search.what search.count
 
 -- the cycle after this one, as a number of 64 bits
 unfoldable pub cycle_after : ℕ → ℕ
@@ -159,7 +162,7 @@ cycle_after cycle = min (cycle + 1) (2 ^ 64 - 1)
 abbrev pub found_request : Search → Option ℕ → Request
 found_request search (Some cycle) =
     Ok (Some (command.Back (record { cut = cycle_after cycle; cycle = cycle; lists = search.lists })))
-found_request search None = Err (missed search.what)
+found_request search None = Err (missed search)
 
 -- `save` once it was tried: itself, answered like an empty line, or a line at fault
 unfoldable pub request_saved : FileName → Result (Unit {0}) SaveFault → Request

@@ -1,8 +1,8 @@
 -- The answer to `help`.
 use Rattle.std.specs.Prelude.{ℕ, List, ◌++◌, codes, flat_map}
-use Rattle.agc_repl.specs.Name.{all_names, usage_text}
-use Rattle.agc_repl.specs.declared.name.CommandName.{CommandName}
-use Rattle.agc_repl.specs.declared.name.CommandName.TheVariants as name
+use Rattle.agc_command.specs.Name.{all_names, usage_text}
+use Rattle.agc_command.specs.declared.name.CommandName.{CommandName}
+use Rattle.agc_command.specs.declared.name.CommandName.TheVariants as name
 
 -- what a command does
 unfoldable pub purpose_text : CommandName → List ℕ

@@ -1,7 +1,7 @@
 -- What is read from an input whose bytes are known.
 use Rattle.std.specs.Prelude.{◌≡◌, ℕ, List, [], ◌∷◌, map, Option, None, Some, IfSome}
 use Rattle.std.specs.Io.KnownBytes.{Consumes, IsAtEnd}
-use Rattle.agc_repl.specs.Command.{request_of}
+use Rattle.agc_command.specs.Command.{request_of}
 use Rattle.agc_word.specs.Text.{lines_of}
 use Rattle.agc_repl.specs.Answered.{Request}
 use Rattle.agc_repl.specs.Transcript.{requests_in}

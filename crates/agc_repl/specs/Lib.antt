@@ -1,12 +1,3 @@
-pub mod Name
-pub mod Fault
-pub mod Words
-pub mod Meant
-pub mod Number
-pub mod Place
-pub mod Comparison
-pub mod FileName
-pub mod Command
 pub mod Help
 pub mod Answer
 pub mod Settings

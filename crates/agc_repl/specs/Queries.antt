@@ -12,8 +12,8 @@ use Rattle.agc_repl.specs.Answer.{cell_line, channel_line, writes_line}
 use Rattle.agc_trace.specs.StateLines.{next_line_with, registers_line}
 use Rattle.agc_repl.specs.Help.{help_text}
 use Rattle.agc_repl.specs.declared.answer.CellStyle.TheVariants as style
-use Rattle.agc_repl.specs.declared.command.Command.{Command}
-use Rattle.agc_repl.specs.declared.command.Command.TheVariants as command
+use Rattle.agc_command.specs.declared.command.Command.{Command}
+use Rattle.agc_command.specs.declared.command.Command.TheVariants as command
 use Rattle.agc_repl.specs.Settings.{breakpoint_line}
 use Rattle.agc_repl.specs.Whereabouts.{where_text}
 use Rattle.agc_repl.specs.declared.repl.Repl.{Repl}

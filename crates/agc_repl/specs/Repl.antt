@@ -61,7 +61,8 @@ then_run first rest = record { last = rest.last; writes = first.writes ++ rest.w
 abbrev pub armed_anew : State → List Armed → List Armed
 armed_anew s armed = map (λ a. armed_in s a.number a.condition) armed
 
--- A run that passes over this many hits: after each one the conditions are armed anew, and it runs on.
+-- A run that passes over this many hits. After each of them the conditions are armed anew, and it runs on; a run that is not hit
+-- has ended at the cycle or the stop, so what follows it is empty.
 unfoldable pub run_past : ℕ → List Armed → ℕ → Repl → Run
 run_past zero armed cycle t = run_of armed cycle t
 run_past (suc more) armed cycle t =

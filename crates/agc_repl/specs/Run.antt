@@ -11,7 +11,7 @@ use Rattle.agc_session.specs.Condition.{armed_in, first_hit}
 use Rattle.agc_session.specs.Session.{shown_after}
 use Rattle.agc_session.specs.declared.condition.Armed.{Armed}
 use Rattle.agc_repl.specs.Answer.{write_line}
-use Rattle.agc_repl.specs.Command.{IsBreakpointInRange}
+use Rattle.agc_command.specs.Command.{IsBreakpointInRange}
 use Rattle.agc_repl.specs.Settings.{numbered_text}
 use Rattle.agc_repl.specs.declared.settings.Numbered.{Numbered}
 

@@ -1,8 +1,8 @@
 -- The text of a session: the requests of an input, answered in turn.
 use Rattle.std.specs.Prelude.{◌≡◌, ◌⊎◌, ℕ, Bool, true, false, if◌then◌else◌, List, [], ◌∷◌, ◌++◌, map, Option, Some, Ok, codes}
 use Rattle.std.specs.Io.KnownBytes.{Appends, Keeps}
-use Rattle.agc_repl.specs.Command.{request_of}
-use Rattle.agc_repl.specs.declared.command.Command.TheVariants as command
+use Rattle.agc_command.specs.Command.{request_of}
+use Rattle.agc_command.specs.declared.command.Command.TheVariants as command
 use Rattle.agc_word.specs.Text.{lines_of}
 use Rattle.agc_repl.specs.Answered.{IsHandled, Means, Request, answer_to}
 use Rattle.agc_repl.specs.declared.repl.Repl.{Repl}

@@ -12,35 +12,25 @@ ghost use Rattle.agc_repl.specs.Answer.{
 };
 ghost use Rattle.agc_word.specs.Channels.{last_io_channel};
 ghost use Rattle.agc_word.specs.Octal.{octal_digits};
-ghost use Rattle.agc_listing.specs.Location.{IsWithin};
-ghost use Rattle.agc_listing.specs.Place.{IsInPrint, place_text};
-ghost use Rattle.agc_repl.specs.Command.{IsBreakpointInRange, IsChannelInRange};
-ghost use Rattle.agc_repl.specs.Fault.{fault_text, fault_text_with, name_meant, question};
+ghost use Rattle.agc_command.specs.Command.{IsBreakpointInRange};
+ghost use Rattle.agc_command.specs.Fault.{fault_text, fault_text_with};
 ghost use Rattle.agc_repl.specs.Settings.{
   AreInRange,
   breakpoint_line,
-  breakpoint_text,
-  channel_text,
-  interrupt_text,
-  location_text,
   numbered_text,
-  word_text,
 };
 ghost use Rattle.agc_repl.specs.Run.{run_line, stop_line};
 ghost use Rattle.agc_trace.specs.OperandLine.{signed_text};
 ghost use Rattle.agc_session.specs.Comparison.{word_at};
 ghost use Rattle.agc_store.specs.Places.{erasable_cells};
 
-use crate::comparison::push_comparison;
-use crate::fault::CommandFault;
-use crate::meant::name_meant;
 use crate::settings::Numbered;
-use agc_listing::{Cell, Location, Place, listed_address, push_place};
+use agc_command::{CommandFault, push_breakpoint, push_fault_with};
+use agc_listing::{Cell, push_place};
 use agc_machine::Stop;
-use agc_processor::Rupt;
-use agc_session::{Armed, Condition};
+use agc_session::Armed;
 use agc_store::Store;
-use agc_store::place::{ERASABLE_BANK_SIZE, bank_of};
+use agc_store::place::ERASABLE_BANK_SIZE;
 use agc_symbols::SymbolTable;
 use agc_word::{ChannelWrite, Narrow};
 use std::alloc::AllocError;
@@ -121,43 +111,6 @@ pub(crate) fn push_refusal_line(
     text.push_str("error: ")?;
     push_fault_with(text, names, fault)?;
     text.push_str("\n")
-}
-
-/// Adds a fault, and the name that was probably meant if it is an unknown name.
-#[tactic(auto, unfolding(crate::specs::Fault::fault_text_with))]
-fn push_fault_with(
-    text: &mut String,
-    names: &Option<SymbolTable>,
-    fault: CommandFault,
-) -> Result<(), AllocError>
-    ensures { OnOk result
-        (string_bytes text.new ≡ string_bytes text.old ++ fault_text_with names.now fault) }
-{
-    write!(text, "{fault}")?;
-    push_question(text, names, fault)
-}
-
-/// Adds the question whether a name was meant, if the fault is an unknown name.
-fn push_question(
-    text: &mut String,
-    names: &Option<SymbolTable>,
-    fault: CommandFault,
-) -> Result<(), AllocError>
-    ensures { OnOk result
-        (string_bytes text.new ≡ string_bytes text.old ++ question (name_meant names.now fault)) }
-{
-    match name_meant(names, fault) {
-        Some(name) => push_meant(text, name),
-        None => Ok(()),
-    }
-}
-
-/// Adds the question whether this name was meant.
-fn push_meant(text: &mut String, name: &str) -> Result<(), AllocError>
-    ensures { OnOk result
-        (string_bytes text.new ≡ string_bytes text.old ++ question (Some name.now)) }
-{
-    write!(text, "; did you mean {name}?")
 }
 
 /// Adds a line for each of `count` cells of erasable memory, from `first` on.
@@ -288,114 +241,6 @@ fn push_numbered(text: &mut String, breakpoint: Numbered) -> Result<(), AllocErr
     write!(text, "{number} ")?;
     push_breakpoint(text, breakpoint.what)?;
     text.push_str("\n")
-}
-
-/// Adds what a breakpoint is at.
-#[tactic(auto, unfolding(crate::specs::Settings::breakpoint_text, crate::specs::Command::IsBreakpointInRange))]
-fn push_breakpoint(text: &mut String, what: Condition) -> Result<(), AllocError>
-    requires { IsBreakpointInRange what }
-    ensures { OnOk result (string_bytes text.new ≡ string_bytes text.old ++ breakpoint_text what) }
-{
-    match what {
-        Condition::Order(place) => {
-            text.push_str("order ")?;
-            push_location(text, place)
-        }
-        Condition::OrderIf { place, comparison } => {
-            text.push_str("order ")?;
-            push_location(text, place)?;
-            push_comparison(text, comparison)
-        }
-        Condition::Write { channel, word } => {
-            text.push_str("write")?;
-            push_channel_of(text, channel)?;
-            push_word_of(text, word)
-        }
-        Condition::Cell(cell) => {
-            text.push_str("cell ")?;
-            push_place(text, Cell::new(cell).place())
-        }
-        Condition::Interrupt(which) => {
-            text.push_str("interrupt")?;
-            push_interrupt_of(text, which)
-        }
-        Condition::Caller(_) => text.push_str("caller"),
-        Condition::Panel => text.push_str("panel"),
-        Condition::Shows(line) => {
-            text.push_str("panel ")?;
-            line.push_to(text)
-        }
-        Condition::Boundary => text.push_str("boundary"),
-    }
-}
-
-/// Adds the channel of a write, if there is one.
-fn push_channel_of(text: &mut String, channel: Option<u16>) -> Result<(), AllocError>
-    requires { IsChannelInRange channel }
-    ensures { OnOk result (string_bytes text.new ≡ string_bytes text.old ++ channel_text channel) }
-{
-    match channel {
-        Some(channel) => {
-            text.push_str(" ")?;
-            push_channel(text, channel)
-        }
-        None => Ok(()),
-    }
-}
-
-/// Adds the word of a write, if there is one.
-fn push_word_of(text: &mut String, word: Option<Narrow>) -> Result<(), AllocError>
-    ensures { OnOk result (string_bytes text.new ≡ string_bytes text.old ++ word_text word) }
-{
-    match word {
-        Some(word) => write!(text, " {word}"),
-        None => Ok(()),
-    }
-}
-
-/// Adds the name of an interrupt, if there is one.
-fn push_interrupt_of(text: &mut String, which: Option<Rupt>) -> Result<(), AllocError>
-    ensures { OnOk result (string_bytes text.new ≡ string_bytes text.old ++ interrupt_text which) }
-{
-    match which {
-        Some(rupt) => {
-            let name = rupt.name();
-            write!(text, " {name}")
-        }
-        None => Ok(()),
-    }
-}
-
-/// Adds a channel in three octal digits.
-fn push_channel(text: &mut String, channel: u16) -> Result<(), AllocError>
-    requires { channel ≤ last_io_channel }
-    ensures { OnOk result
-        (string_bytes text.new ≡ string_bytes text.old ++ octal_digits 3 channel) }
-{
-    write!(text, "{channel:03o}")
-}
-
-/// Adds a place as traces print it.
-fn push_location(text: &mut String, place: Location) -> Result<(), AllocError>
-    requires { IsWithin place }
-    ensures { OnOk result (string_bytes text.new ≡ string_bytes text.old ++ location_text place) }
-{
-    push_place(text, place_at(place))
-}
-
-/// Returns the printed form of a place.
-fn place_at(place: Location) -> Place
-    requires { IsWithin place }
-    ensures place { place_text result ≡ location_text place }
-    ensures range { IsInPrint result }
-{
-    match place {
-        Location::Fixed(place) => Place::Fixed {
-            bank: bank_of(place),
-            address: listed_address(place as usize),
-        },
-        Location::Erasable(cell) => Cell::new(cell as u16).place(),
-    }
 }
 
 /// Adds the line of a channel's word: `channel CCC VVVVV`.

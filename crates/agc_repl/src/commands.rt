@@ -8,7 +8,7 @@ ghost use Rattle.agc_session.specs.Session.{injected_now};
 ghost use Rattle.agc_trace.specs.Entry.{FitsLine, entry_of};
 ghost use Rattle.agc_session.specs.Condition.{armed_in};
 ghost use Rattle.agc_repl.specs.Changes.{boundary_text, change_text, step_text};
-ghost use Rattle.agc_repl.specs.Command.{IsBreakpointInRange, IsJobCell};
+ghost use Rattle.agc_command.specs.Command.{IsBreakpointInRange, IsJobCell};
 ghost use Rattle.agc_repl.specs.Answered.{Begins, Grows, Outputs, limited_run, refusal_text, shown_continue, shown_run, shown_until};
 ghost use Rattle.agc_repl.specs.Settings.{AreInRange};
 ghost use Rattle.agc_repl.specs.Repl.{GoesOn, RunsOn, after_boundaries, after_due, after_run, all_armed, armed_anew, gone_on, run_of, takes_event};
@@ -19,11 +19,11 @@ ghost use Rattle.agc_store.specs.Places.{erasable_cells};
 use crate::answer::{
     CellStyle, push_cell_line, push_hit_line, push_run_line, push_stop_line, word_of,
 };
-use crate::command::{Limits, Steps};
 use crate::conversation::ReplFault;
 use crate::output::write_part;
 use crate::repl::Repl;
 use crate::settings::Numbered;
+use agc_command::{Limits, Steps};
 use agc_machine::{Machine, Stepped, Upcoming};
 use agc_script::{MOST_EVENTS, What};
 use agc_session::{Advanced, Armed, Condition, InjectFault};

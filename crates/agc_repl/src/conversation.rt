@@ -36,23 +36,21 @@ ghost use Rattle.agc_session.specs.Condition.{IsConditionInRange};
 ghost use Rattle.agc_repl.specs.Queries.{shown_text};
 ghost use Rattle.agc_repl.specs.Repl.{at_start};
 ghost use Rattle.agc_script.specs.Event.{IsWhatInRange, last_cycle};
-ghost use Rattle.agc_repl.specs.Fault.{fault_text_with};
-ghost use Rattle.agc_repl.specs.Command.{IsBreakpointInRange, IsCommandInRange, IsJobCell};
+ghost use Rattle.agc_command.specs.Fault.{fault_text_with};
+ghost use Rattle.agc_command.specs.Command.{IsBreakpointInRange, IsCommandInRange, IsJobCell};
 ghost use Rattle.agc_repl.specs.Settings.{at_first, breakpoint_line, next_numbered, with_breakpoint};
 ghost use Rattle.agc_repl.specs.declared.conversation.ReplFault.TheVariants.{Memory};
 
 use crate::ahead::ahead;
 use crate::answer::{push_breakpoint_line, push_end_line, push_refusal_line};
-use crate::command::{BackCall, Command, Limits, Rewind, Search, StepCall};
 use crate::commands::{go, go_on_to, go_on_until, inject, refusal, step, until};
-use crate::fault::CommandFault;
-use crate::file_name::FileName;
 use crate::lines::{Request, next_request};
 use crate::output::{write_bytes, write_end_line, write_error_line, write_text};
 use crate::queries::push_shown;
 use crate::repl::Repl;
 use crate::saver::{Saver, request_saved};
 use crate::settings::Numbered;
+use agc_command::{BackCall, Command, CommandFault, FileName, Limits, Rewind, Search, StepCall};
 use agc_script::What;
 use agc_session::{Condition, InjectFault, LINE_ROOM, Session};
 use agc_symbols::SymbolTable;
@@ -170,7 +168,7 @@ fn flush<W: Write>(output: &mut W) -> Result<(), ReplFault>
 
 /// Answers a request: a search back by what it finds, a step by calls as a run or a search, `save` by whether it
 /// succeeds. If memory runs out, the answer ends by reporting it.
-#[tactic(auto, unfolding(crate::specs::Command::IsCommandInRange))]
+#[tactic(auto, unfolding(agc_command::specs::Command::IsCommandInRange))]
 fn answer<W: Write, S: Saver>(
     alloc: Global,
     names: &Option<SymbolTable>,
@@ -276,7 +274,7 @@ fn answer_search<W: Write>(
             };
             rewind_to(alloc, names, repl, way, output)
         }
-        None => answer_not_found(alloc, names, repl, &search.what, output),
+        None => answer_not_found(alloc, names, repl, &search, output),
     }
 }
 
@@ -293,24 +291,25 @@ fn answer_not_found<W: Write>(
     alloc: Global,
     names: &Option<SymbolTable>,
     mut repl: Repl,
-    what: &Condition,
+    search: &Search,
     output: &mut W,
 ) -> Result<Repl, ReplFault>
-    ensures { IfOk result (λ left. IsAnswered names.now (Err (missed what.now)) repl left
+    ensures { IfOk result (λ left. IsAnswered names.now (Err (missed search.now)) repl left
         (W.contents output.old) (W.contents output.new)) }
 {
-    let reported = answer_now(alloc, names, &mut repl, Err(missed(what)), output);
+    let reported = answer_now(alloc, names, &mut repl, Err(missed(search)), output);
     keep_if(reported, repl)
 }
 
 /// Returns the fault of a search back that finds nothing.
 #[tactic(auto, unfolding(crate::specs::Answered::missed))]
-fn missed(what: &Condition) -> CommandFault
-    ensures { result ≡ missed what.now }
+fn missed(search: &Search) -> CommandFault
+    ensures { result ≡ missed search.now }
 {
-    match what {
+    match search.what {
         Condition::Boundary => CommandFault::TooFarBack,
-        _ => CommandFault::NotHit,
+        _ if search.count == 1 => CommandFault::NotHit,
+        _ => CommandFault::TooFewHits,
     }
 }
 
@@ -431,7 +430,7 @@ fn push_refusal(
 }
 
 /// Executes a command that neither injects, rewinds nor changes the settings, and adds its answer without the last line.
-#[tactic(auto, unfolding(crate::specs::Command::IsCommandInRange, crate::specs::Answered::done))]
+#[tactic(auto, unfolding(agc_command::specs::Command::IsCommandInRange, crate::specs::Answered::done))]
 fn carry_out<W: Write>(
     alloc: Global,
     names: &Option<SymbolTable>,

@@ -8,7 +8,7 @@ ghost use Rattle.agc_repl.specs.Help.{
   purpose_text,
 };
 
-use crate::name::CommandName;
+use agc_command::CommandName;
 use std::alloc::AllocError;
 
 /// Adds a line for each command and for each event, with its syntax, its effect and an example. Fails if memory runs
@@ -20,7 +20,7 @@ pub fn push_help(text: &mut String) -> Result<(), AllocError>
     push_events(text)
 }
 
-#[tactic(auto, unfolding(crate::specs::Help::all_commands_text, crate::specs::Name::all_names))]
+#[tactic(auto, unfolding(crate::specs::Help::all_commands_text, agc_command::specs::Name::all_names))]
 fn push_all_commands(text: &mut String) -> Result<(), AllocError>
     ensures { OnOk result (string_bytes text.new ≡ string_bytes text.old ++ all_commands_text) }
 {

@@ -3,14 +3,12 @@ ghost use Rattle.std.specs.Prelude.{◌≡◌, List, Option, ℕ, [], ◌∷◌,
 ghost use Rattle.std.specs.Io.KnownBytes.{Keeps};
 ghost use Rattle.std.specs.Str.Lines.{strip_carriage_return};
 ghost use Rattle.agc_symbols.specs.Symbols.{Symbol};
-ghost use Rattle.agc_repl.specs.Command.{IsCommandInRange};
+ghost use Rattle.agc_command.specs.Command.{IsCommandInRange};
 ghost use Rattle.agc_repl.specs.Input.{ReadsByte, ReadsLine, ReadsRequest};
 ghost use Rattle.agc_repl.specs.Transcript.{is_quit};
 
-use crate::command::Command;
 use crate::conversation::ReplFault;
-use crate::fault::CommandFault;
-use crate::request::parse_command;
+use agc_command::{Command, CommandFault, parse_command};
 use agc_script::LONGEST_LINE;
 use agc_symbols::SymbolTable;
 use std::alloc::{AllocError, Global};

@@ -4,23 +4,23 @@ ghost use Rattle.agc_panel.specs.Text.{panel_text};
 ghost use Rattle.agc_panel.specs.Watcher.{watch_text};
 ghost use Rattle.agc_script.specs.Written.{script_text};
 ghost use Rattle.agc_session.specs.Session.{script_of};
-ghost use Rattle.agc_repl.specs.Command.{IsCommandInRange};
+ghost use Rattle.agc_command.specs.Command.{IsCommandInRange};
 ghost use Rattle.agc_repl.specs.Queries.{shown_text};
 
 use crate::answer::{
     CellStyle, push_breakpoint_lines, push_cell_lines, push_channel_line, push_writes_line,
 };
-use crate::command::Command;
 use crate::help::push_help;
 use crate::repl::Repl;
 use crate::whereabouts::push_where;
+use agc_command::Command;
 use agc_panel::{WatchSpec, watch};
 use agc_symbols::SymbolTable;
 use agc_trace::{push_next_line_with, push_registers_line};
 use std::alloc::{AllocError, Global};
 
 /// Adds what a command shows, without the last line of the answer. Adds nothing for a command that does something.
-#[tactic(auto, unfolding(crate::specs::Command::IsCommandInRange, crate::specs::Queries::shown_text))]
+#[tactic(auto, unfolding(agc_command::specs::Command::IsCommandInRange, crate::specs::Queries::shown_text))]
 pub(crate) fn push_shown(
     alloc: Global,
     names: &Option<SymbolTable>,

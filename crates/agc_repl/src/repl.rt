@@ -13,7 +13,7 @@ ghost use Rattle.agc_repl.specs.Repl.{
   gone_on,
   run_of,
 };
-ghost use Rattle.agc_repl.specs.Command.{IsBreakpointInRange};
+ghost use Rattle.agc_command.specs.Command.{IsBreakpointInRange};
 ghost use Rattle.agc_session.specs.Condition.{first_hit};
 ghost use Rattle.agc_repl.specs.Settings.{at_first};
 ghost use Rattle.agc_repl.specs.Run.{AreSound, is_short_of, run_on};

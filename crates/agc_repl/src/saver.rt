@@ -2,20 +2,9 @@
 ghost use Rattle.std.specs.Prelude.{◌≡◌};
 ghost use Rattle.agc_repl.specs.Answered.{request_saved};
 
-use crate::command::Command;
-use crate::fault::CommandFault;
-use crate::file_name::FileName;
 use crate::lines::Request;
+use agc_command::{Command, CommandFault, FileName, SaveFault};
 use agc_session::Session;
-
-/// Why a script was not saved.
-#[derive(Clone, Copy, Debug, PartialEq, Eq)]
-pub enum SaveFault {
-    /// There is a file with this name.
-    Exists,
-    /// The file could not be created or written.
-    CannotWrite,
-}
 
 /// Saves the script of a session to a new file.
 pub trait Saver {

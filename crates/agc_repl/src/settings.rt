@@ -1,6 +1,6 @@
 //! What a console is set to: its numbered breakpoints, and whether runs print their channel writes.
 ghost use Rattle.std.specs.Prelude.{◌≡◌, OnErr, OnOk};
-ghost use Rattle.agc_repl.specs.Command.{IsBreakpointInRange};
+ghost use Rattle.agc_command.specs.Command.{IsBreakpointInRange};
 ghost use Rattle.agc_repl.specs.Settings.{
   AreInRange,
   at_first,

@@ -1,7 +1,7 @@
 use Rattle.std.proofs.Common.{take}
 use Rattle.std.proofs.lemmas.List.Elements.{All-take}
 use Rattle.agc_session.specs.declared.condition.Armed.{Armed}
-use Rattle.agc_repl.specs.Command.{IsBreakpointInRange}
+use Rattle.agc_command.specs.Command.{IsBreakpointInRange}
 use Rattle.agc_repl.proofs.Past.{anew_sound}
 use Rattle.agc_repl.proofs.commands.arm_anew.Goals as goal
 

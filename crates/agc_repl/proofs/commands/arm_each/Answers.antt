@@ -1,6 +1,6 @@
 use Rattle.std.proofs.Common.{take}
 use Rattle.std.proofs.lemmas.List.Elements.{All-take}
-use Rattle.agc_repl.specs.Command.{IsBreakpointInRange}
+use Rattle.agc_command.specs.Command.{IsBreakpointInRange}
 use Rattle.agc_repl.specs.declared.settings.Numbered.{Numbered}
 use Rattle.agc_repl.proofs.Runs.{armed_as}
 use Rattle.agc_repl.proofs.commands.arm_each.Goals as goal

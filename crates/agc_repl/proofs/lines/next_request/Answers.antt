@@ -1,5 +1,5 @@
 use Rattle.std.proofs.Common.{ap, sym, ◌∙◌}
-use Rattle.agc_repl.specs.Command.{request_of}
+use Rattle.agc_command.specs.Command.{request_of}
 use Rattle.agc_repl.proofs.Input.{no_request, other_request, quit_request, quits}
 use Rattle.agc_repl.proofs.lines.next_request.Goals as goal
 

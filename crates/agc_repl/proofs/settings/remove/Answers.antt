@@ -2,7 +2,7 @@ use Rattle.std.specs.Prelude.{◌==◌, not}
 use Rattle.std.proofs.Common.{◌≡◌, rules}
 use Rattle.std.proofs.lemmas.Fn.{filter_same}
 use Rattle.std.proofs.lemmas.List.Elements.{All-filter}
-use Rattle.agc_repl.specs.Command.{IsBreakpointInRange}
+use Rattle.agc_command.specs.Command.{IsBreakpointInRange}
 use Rattle.agc_repl.specs.Settings.{without}
 use Rattle.agc_repl.specs.declared.settings.Numbered.{Numbered}
 use Rattle.agc_repl.proofs.settings.remove.Goals as goal

@@ -1,0 +1,10 @@
+pub mod Name
+pub mod Fault
+pub mod Words
+pub mod Meant
+pub mod Number
+pub mod Place
+pub mod Comparison
+pub mod FileName
+pub mod Command
+pub mod ConditionText
