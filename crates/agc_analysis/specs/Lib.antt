@@ -1,11 +1,1 @@
-pub mod Fault
-pub mod Listed
-pub mod Checked
-pub mod Pairs
-pub mod Compared
-pub mod Filmed
-pub mod Traced
-pub mod Counted
-pub mod Watched
 pub mod Sampled
-pub mod Ended

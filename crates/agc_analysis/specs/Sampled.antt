@@ -1,8 +1,8 @@
 -- What a table of quantities leaves unwritten.
 use Rattle.std.specs.Prelude.{ℕ, List, Option}
 use Rattle.std.specs.Io.KnownBytes.{Keeps}
-use Rattle.agc_analysis.specs.declared.traces.TraceError.{TraceError}
-use Rattle.agc_analysis.specs.declared.traces.TraceError.TheVariants as error
+use Rattle.agc_run_commands.specs.declared.traces.TraceError.{TraceError}
+use Rattle.agc_run_commands.specs.declared.traces.TraceError.TheVariants as error
 
 -- a run that was refused has written nothing
 abbrev pub KeepsIfRefused : Option (List ℕ) → Option (List ℕ) → TraceError → Type 0

@@ -2,27 +2,20 @@
 ghost use Rattle.std.specs.Prelude.{◌≡◌, ◌<◌, IfErr, Ok, codes};
 ghost use Rattle.std.specs.Io.KnownBytes.{Keeps};
 ghost use Rattle.agc_cli.specs.Exit.{ExitsWithUsage};
-ghost use Rattle.agc_analysis.specs.Ended.{EndsWith, LooksForFaults};
+ghost use Rattle.agc_run_commands.specs.Ended.{EndsWith, LooksForFaults};
 
-use crate::cmd_check::run_check;
-use crate::cmd_compare::run_compare;
-use crate::cmd_downlink::run_downlink;
-use crate::cmd_film::run_film;
-use crate::cmd_jobs::run_jobs;
 use crate::cmd_list::run_list;
-use crate::cmd_merge::run_merge;
 use crate::cmd_operations::run_operations;
-use crate::cmd_profile::run_profile;
-use crate::cmd_restore::{run_convert, run_patch, run_repair, run_sums};
 use crate::cmd_sample::run_sample;
-use crate::cmd_trace::run_trace;
-use crate::cmd_uplink::run_uplink;
 use crate::cmd_weave::run_weave;
 use crate::cmd_words::run_words;
-use crate::fault::FAULTY;
-use crate::streams::Streams;
 use agc_cli::{ArgsFault, exit_usage};
 use agc_io::ProgressLine;
+use agc_rope_commands::{run_check, run_convert, run_merge, run_patch, run_repair, run_sums};
+use agc_run_commands::{
+    FAULTY, Streams, run_compare, run_downlink, run_film, run_jobs, run_profile, run_trace,
+    run_uplink,
+};
 use agc_study_args::{Args, NAME};
 use std::io::Write;
 use std::rt::Files;

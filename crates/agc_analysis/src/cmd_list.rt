@@ -2,18 +2,15 @@
 ghost use Rattle.std.specs.Prelude.{◌≡◌, ◌≢◌, ◌⊎◌};
 ghost use Rattle.std.specs.Io.KnownBytes.{Appends, Keeps};
 ghost use Rattle.agc_io.specs.Output.{IsBegun};
-ghost use Rattle.agc_analysis.specs.Ended.{EndsWith};
-ghost use Rattle.agc_analysis.specs.Listed.{IsListRefused, IsListWritten};
-ghost use Rattle.agc_analysis.specs.Fault.{IsReported};
+ghost use Rattle.agc_run_commands.specs.Ended.{EndsWith};
+ghost use Rattle.agc_rope_commands.specs.Listed.{IsListRefused, IsListWritten};
+ghost use Rattle.agc_run_commands.specs.Fault.{IsReported};
 
-use crate::fault::FAULTY;
-use crate::inputs::read_symbols;
 use crate::interpretive_list::{InterpretiveCode, interpretive_list, requested_code};
-use crate::rope_bytes::special_list;
-use crate::ropes::text_of_rope;
-use crate::streams::Streams;
 use agc_cli::exit_usage;
 use agc_io::{OK, ROPE_BYTES, status_of, write_in_full};
+use agc_rope_commands::{special_list, text_of_rope};
+use agc_run_commands::{FAULTY, Streams, read_symbols};
 use agc_study_args::{ListArgs, NAME, open_file};
 use agc_trace::LineForm;
 use std::alloc::Global;

@@ -1,17 +1,15 @@
 //! Runs `trace --interpretive`: writes the operations of the interpretive language that a run carries out.
 ghost use Rattle.std.specs.Prelude.{◌≢◌};
-ghost use Rattle.agc_analysis.specs.Ended.{EndsWith};
+ghost use Rattle.agc_run_commands.specs.Ended.{EndsWith};
 
-use crate::fault::{AnalysisFault, FAULTY};
-use crate::inputs::read_symbols;
 use crate::interpreter::interpreter_named;
 use crate::operations::{OperationPlan, OperationsEnd, operation_files};
-use crate::remarks::{remark_on_start, stop_of};
-use crate::streams::Streams;
-use crate::traces::status_of_trace_error;
 use agc_cli::exit_usage;
 use agc_io::{OK, ProgressLine};
 use agc_load::LoadFault;
+use agc_run_commands::{
+    AnalysisFault, FAULTY, Streams, read_symbols, remark_on_start, status_of_trace_error, stop_of,
+};
 use agc_study_args::{NAME, OperationsArgs, RunInputs, open_run, resolve_until};
 use std::alloc::Global;
 use std::io::{Read, Write};

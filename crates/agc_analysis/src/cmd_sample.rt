@@ -1,18 +1,16 @@
 //! Runs `sample`: writes quantities of a program over time.
 ghost use Rattle.std.specs.Prelude.{◌≡◌, ◌≢◌, ◌⊎◌, IfErr, OnOk};
-ghost use Rattle.agc_analysis.specs.Ended.{EndsWith};
+ghost use Rattle.agc_run_commands.specs.Ended.{EndsWith};
 
-use crate::fault::{AnalysisFault, FAULTY};
-use crate::inputs::read_symbols;
-use crate::remarks::{remark_on_start, stop_of};
 use crate::samples::{SampleTable, sample_files};
-use crate::streams::Streams;
-use crate::traces::status_of_trace_error;
 use agc_cli::{ArgsFault, exit_usage};
 use agc_io::{OK, ProgressLine, ReadError, read_limited, status_of};
 use agc_load::LoadFault;
 use agc_quantities::{
     FILE_BYTES, Plan, QuantitiesFault, Quantity, Schedule, push_fault, read_quantities,
+};
+use agc_run_commands::{
+    AnalysisFault, FAULTY, Streams, read_symbols, remark_on_start, status_of_trace_error, stop_of,
 };
 use agc_study_args::{
     NAME, RunInputs, SampleArgs, SampleTimes, open_file, open_run, resolve_at, resolve_until,

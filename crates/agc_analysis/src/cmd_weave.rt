@@ -2,22 +2,23 @@
 ghost use Rattle.std.specs.Prelude.{◌≡◌, ◌≢◌, ◌⊎◌};
 ghost use Rattle.std.specs.Io.KnownBytes.{Appends, Keeps};
 ghost use Rattle.agc_io.specs.Output.{IsBegun};
-ghost use Rattle.agc_analysis.specs.Ended.{EndsWith};
-ghost use Rattle.agc_analysis.specs.Listed.{IsWeaveRefused, IsWeaveWritten};
-ghost use Rattle.agc_analysis.specs.Fault.{IsReported};
+ghost use Rattle.agc_run_commands.specs.Ended.{EndsWith};
+ghost use Rattle.agc_rope_commands.specs.Listed.{IsWeaveRefused, IsWeaveWritten};
+ghost use Rattle.agc_run_commands.specs.Fault.{IsReported};
 
-use crate::fault::{AnalysisFault, FAULTY};
-use crate::included::{expanded_source, in_files, report_include};
-use crate::new_files::{check_new_paths, check_paths_beside, is_written};
-use crate::ropes::{Woven, misnamed_line, weave_text};
-use crate::source_faults::{write_expanded_faults, write_other_faults};
-use crate::streams::Streams;
 use agc_asm::{
     AssemblyFault, Misnamed, assemble, first_misnamed, line_remarks, source_symbols, word_lines,
 };
 use agc_cli::exit_usage;
 use agc_include::{Expanded, has_include};
 use agc_io::{OK, ReadError, TEXT_BYTES, WRITE_FAILED, read_limited, status_of, write_in_full};
+use agc_rope_commands::{
+    Woven, expanded_source, in_files, misnamed_line, report_include, weave_text,
+    write_expanded_faults, write_other_faults,
+};
+use agc_run_commands::{
+    AnalysisFault, FAULTY, Streams, check_new_paths, check_paths_beside, is_written,
+};
 use agc_store::RopeForm;
 use agc_study_args::{NAME, WeaveArgs, open_file, remark_on_file};
 use agc_woven::{ListingFault, SumsFault, listing_of, used_file, with_sums};

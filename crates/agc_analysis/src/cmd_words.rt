@@ -1,16 +1,15 @@
 //! Runs `compare --words`: writes the words of two ropes or sources that differ.
 ghost use Rattle.std.specs.Prelude.{◌≡◌, ◌⊎◌};
-ghost use Rattle.agc_analysis.specs.Ended.{EndsWith};
+ghost use Rattle.agc_run_commands.specs.Ended.{EndsWith};
 
-use crate::fault::{AnalysisFault, FAULTY};
-use crate::included::{expanded_source, report_include};
-use crate::ropes::weave_text;
-use crate::source_faults::{push_line, write_expanded_faults};
-use crate::streams::Streams;
 use agc_asm::{AssemblyFault, assemble, word_lines};
 use agc_include::{ExpandError, Expanded, has_include};
 use agc_io::{OK, ROPE_BYTES, ReadError, TEXT_BYTES, read_limited, status_of, write_in_full};
 use agc_load::LoadFault;
+use agc_rope_commands::{
+    expanded_source, push_line, report_include, weave_text, write_expanded_faults,
+};
+use agc_run_commands::{AnalysisFault, FAULTY, Streams};
 use agc_store::{Rope, RopeForm, Store};
 use agc_study_args::{
     LinedRope, RopeRead, WordsArgs, open_file, read_any_rope, text_of_words_apart,

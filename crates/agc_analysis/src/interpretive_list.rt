@@ -1,12 +1,12 @@
 //! Lists words as code of the interpretive language: those that `--interpretive` names, itself or by a file, or those behind the
 //! calls that `--follow` names.
-use crate::fault::AnalysisFault;
-use crate::rope_bytes::read_banks;
 use agc_cli::ArgsFault;
 use agc_io::{InputFile, ReadError, TEXT_BYTES, read_limited};
 use agc_listing::{Location, RangeFault};
 use agc_load::LoadFault;
 use agc_mend::damaged_store;
+use agc_rope_commands::read_banks;
+use agc_run_commands::AnalysisFault;
 use agc_store::Store;
 use agc_study_args::{ListArgs, RopeRead, read_any_rope};
 use agc_symbols::{SymbolTable, resolve, resolve_range};

@@ -4,11 +4,11 @@ ghost use Rattle.agc_analysis.specs.Sampled.{KeepsIfRefused};
 
 use crate::interpreter::{Interpreter, Passing};
 use crate::operation_names::named_for;
-use crate::traces::TraceError;
 use agc_io::{Progress, report_at, write_in_full};
 use agc_listing::{Cell, Location, location_in, push_rope_place};
 use agc_machine::{Machine, Stepped};
 use agc_quantities::{Kind, Scale, push_value};
+use agc_run_commands::TraceError;
 use agc_store::place::{ERASABLE_CELLS, FIXED_WORDS};
 use agc_store::{Addr, Store};
 use agc_study_args::{RunInputs, RunOptions, read_machine};

@@ -2,10 +2,10 @@
 ghost use Rattle.std.specs.Prelude.{IfErr};
 ghost use Rattle.agc_analysis.specs.Sampled.{KeepsIfRefused};
 
-use crate::traces::TraceError;
 use agc_io::{Progress, write_in_full};
 use agc_machine::Machine;
 use agc_quantities::{Plan, Quantity, Sampler, push_heading, push_row};
+use agc_run_commands::TraceError;
 use agc_study_args::{RunInputs, RunOptions, read_machine};
 use agc_trace::TraceFault;
 use std::alloc::Global;

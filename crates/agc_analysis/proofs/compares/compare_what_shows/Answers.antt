@@ -1,4 +1,0 @@
-use Rattle.agc_analysis.proofs.compares.compare_what_shows.Goals as goal
-
-pub returns : goal.returns
-returns g c = rw c.is_same.ensures c.in_ok-comparison.ensures.law

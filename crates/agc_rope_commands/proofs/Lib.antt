@@ -1,0 +1,2 @@
+mod ListTexts
+pub mod Whole
