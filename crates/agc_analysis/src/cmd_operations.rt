@@ -3,20 +3,15 @@ ghost use Rattle.std.specs.Prelude.{◌≢◌};
 ghost use Rattle.agc_run_commands.specs.Ended.{EndsWith};
 
 use crate::interpreter::interpreter_named;
-use crate::operations::{OperationPlan, OperationsEnd, operation_files};
+use crate::operations::OperationPlan;
+use crate::run_tables::{RunTable, write_run};
 use agc_cli::exit_usage;
-use agc_io::{OK, ProgressLine};
+use agc_io::ProgressLine;
 use agc_load::LoadFault;
-use agc_run_commands::{
-    AnalysisFault, FAULTY, Streams, read_symbols, remark_on_start, status_of_trace_error, stop_of,
-};
-use agc_study_args::{NAME, OperationsArgs, RunInputs, open_run, resolve_until};
-use std::alloc::Global;
-use std::io::{Read, Write};
+use agc_run_commands::{AnalysisFault, FAULTY, Streams, read_symbols};
+use agc_study_args::{NAME, OperationsArgs, open_run, resolve_until};
+use std::io::Write;
 use std::rt::Files;
-
-const NONE_BEGAN: &str =
-    "agc-study: no operation began in these cycles; the places of --interpretive may be those of another rope\n";
 
 /// Writes the operations of the run of two files. A value of `--interpretive` that does not name the interpreter's places and
 /// cells, with the symbol file in use, is reported as a command-line error. A remark warns if the run stops before the range, or
@@ -42,50 +37,14 @@ where
         Ok(interpreter) => interpreter,
         Err(fault) => return exit_usage(NAME, fault, FAULTY, &mut io.out, &mut io.err),
     };
-    let plan = OperationPlan {
+    let table = RunTable::Operations(OperationPlan {
         interpreter,
         span: args.span,
         names,
-    };
+    });
     let mut inputs = open_run(rt, &args.files);
-    let status = write_run(rt.alloc(), args, &plan, &mut inputs, io);
+    let (options, from) = (&args.options, args.span.from);
+    let status = write_run(rt.alloc(), options, &table, from, &mut inputs, io);
     inputs.remark_fault(rt.alloc(), &mut io.remarks);
     status
-}
-
-/// Writes the operations of the run of a rope and a script.
-fn write_run<R: Read, W: Write, E: Write, N: Write, P: ProgressLine>(
-    alloc: Global,
-    args: &OperationsArgs,
-    plan: &OperationPlan,
-    inputs: &mut RunInputs<R>,
-    io: &mut Streams<W, E, N, P>,
-) -> u8
-    ensures ended { EndsWith W.contents E.contents result io.old io.new }
-    ensures faulty { result ≢ 1 }
-{
-    let written = operation_files(
-        alloc,
-        &args.options,
-        plan,
-        inputs,
-        &mut io.out,
-        &mut io.progress,
-    );
-    io.progress.wipe();
-    match written {
-        Ok(OperationsEnd { machine, is_empty }) => {
-            remark_on_start(stop_of(&machine), args.span.from, &mut io.remarks);
-            remark_on_nothing(is_empty, &mut io.remarks);
-            OK
-        }
-        Err(error) => status_of_trace_error(error, &mut io.err),
-    }
-}
-
-/// Warns if no operation was written.
-fn remark_on_nothing<N: Write>(is_empty: bool, remarks: &mut N) {
-    if is_empty {
-        let _written = remarks.write_all(NONE_BEGAN.as_bytes());
-    }
 }

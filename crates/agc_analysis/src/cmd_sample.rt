@@ -2,22 +2,21 @@
 ghost use Rattle.std.specs.Prelude.{◌≡◌, ◌≢◌, ◌⊎◌, IfErr, OnOk};
 ghost use Rattle.agc_run_commands.specs.Ended.{EndsWith};
 
-use crate::samples::{SampleTable, sample_files};
+use crate::run_tables::{RunTable, write_run};
+use crate::samples::SampleTable;
 use agc_cli::{ArgsFault, exit_usage};
-use agc_io::{OK, ProgressLine, ReadError, read_limited, status_of};
+use agc_io::{ProgressLine, ReadError, read_limited, status_of};
 use agc_load::LoadFault;
 use agc_quantities::{
     FILE_BYTES, Plan, QuantitiesFault, Quantity, Schedule, push_fault, read_quantities,
 };
-use agc_run_commands::{
-    AnalysisFault, FAULTY, Streams, read_symbols, remark_on_start, status_of_trace_error, stop_of,
-};
+use agc_run_commands::{AnalysisFault, FAULTY, Streams, read_symbols};
 use agc_study_args::{
-    NAME, RunInputs, SampleArgs, SampleTimes, open_file, open_run, resolve_at, resolve_until,
+    NAME, SampleArgs, SampleTimes, open_file, open_run, resolve_at, resolve_until,
 };
 use agc_symbols::SymbolTable;
 use std::alloc::{AllocError, Global};
-use std::io::{Read, Write};
+use std::io::Write;
 use std::rt::Files;
 
 /// Writes the table of quantities of the run of two files. A value of `--at` that names nothing, with the symbol file in
@@ -47,13 +46,14 @@ where
         Ok(quantities) => quantities,
         Err(status) => return status,
     };
-    let table = SampleTable {
+    let table = RunTable::Samples(SampleTable {
         quantities,
         plan,
         shows_minus_zero: args.shows_minus_zero,
-    };
+    });
     let mut inputs = open_run(rt, &args.files);
-    let status = write_sample(rt.alloc(), args, &table, &mut inputs, io);
+    let (options, from) = (&args.options, args.span.from);
+    let status = write_run(rt.alloc(), options, &table, from, &mut inputs, io);
     inputs.remark_fault(rt.alloc(), &mut io.remarks);
     status
 }
@@ -149,33 +149,4 @@ fn fault_line(
     push_fault(alloc, &mut line, text, names, fault)?;
     line.push_str("\n")?;
     Ok(line)
-}
-
-/// Writes the table of the run of a rope and a script.
-fn write_sample<R: Read, W: Write, E: Write, N: Write, P: ProgressLine>(
-    alloc: Global,
-    args: &SampleArgs,
-    table: &SampleTable,
-    inputs: &mut RunInputs<R>,
-    io: &mut Streams<W, E, N, P>,
-) -> u8
-    ensures ended { EndsWith W.contents E.contents result io.old io.new }
-    ensures faulty { result ≢ 1 }
-{
-    let sampled = sample_files(
-        alloc,
-        &args.options,
-        table,
-        inputs,
-        &mut io.out,
-        &mut io.progress,
-    );
-    io.progress.wipe();
-    match sampled {
-        Ok(machine) => {
-            remark_on_start(stop_of(&machine), args.span.from, &mut io.remarks);
-            OK
-        }
-        Err(error) => status_of_trace_error(error, &mut io.err),
-    }
 }

@@ -13,8 +13,8 @@ mod interpreter;
 mod interpretive_list;
 mod operation_names;
 mod operations;
+mod run_tables;
 mod samples;
 
 pub use agc_run_commands::{FAULTY, Streams, TraceError, status_of_trace_error};
 pub use answers::{answer, last_cycle};
-pub use samples::{SampleTable, sample_files};

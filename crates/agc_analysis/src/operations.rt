@@ -1,23 +1,19 @@
-//! Runs a rope and a script, and writes a line for each operation of its interpreter.
-ghost use Rattle.std.specs.Prelude.{IfErr};
-ghost use Rattle.agc_analysis.specs.Sampled.{KeepsIfRefused};
-
+//! Writes a line for each operation of the interpreter of a run.
 use crate::interpreter::{Interpreter, Passing};
 use crate::operation_names::named_for;
-use agc_io::{Progress, report_at, write_in_full};
+use agc_io::{Progress, report_at};
 use agc_listing::{Cell, Location, location_in, push_rope_place};
 use agc_machine::{Machine, Stepped};
 use agc_quantities::{Kind, Scale, push_value};
-use agc_run_commands::TraceError;
+use agc_run_commands::write_text;
 use agc_store::place::{ERASABLE_CELLS, FIXED_WORDS};
 use agc_store::{Addr, Store};
-use agc_study_args::{RunInputs, RunOptions, read_machine};
 use agc_symbols::SymbolTable;
 use agc_trace::{Span, TraceFault};
 use agc_word::Narrow;
 use agc_woven::{Operations, operations_at};
 use std::alloc::{AllocError, Global};
-use std::io::{Read, Write};
+use std::io::Write;
 
 /// The words of the accumulator are fractions.
 const FRACTION: Scale = Scale { worth: 1, parts: 1 };
@@ -77,38 +73,8 @@ struct Follower<'a> {
     is_fetched: bool,
 }
 
-/// The end of a run whose operations were written.
-#[derive(Drop)]
-pub(crate) struct OperationsEnd {
-    pub machine: Machine,
-    /// Whether no operation was written.
-    pub is_empty: bool,
-}
-
-/// Reads a rope and a script, and writes the operations of their run. Fails with the first fault, checked in this order: rope,
-/// script, limit, `--until`; or if memory runs out. Nothing is written in that case.
-pub(crate) fn operation_files<R: Read, W: Write, P: Progress>(
-    alloc: Global,
-    options: &RunOptions,
-    plan: &OperationPlan,
-    inputs: &mut RunInputs<R>,
-    out: &mut W,
-    progress: &mut P,
-) -> Result<OperationsEnd, TraceError>
-    ensures { IfErr result (KeepsIfRefused (W.contents out.old) (W.contents out.new)) }
-{
-    let mut machine = match read_machine(alloc, options, inputs) {
-        Ok(machine) => machine,
-        Err(refusal) => return Err(TraceError::Refused(refusal)),
-    };
-    match write_operations(alloc, plan, &mut machine, out, progress) {
-        Ok(is_empty) => Ok(OperationsEnd { machine, is_empty }),
-        Err(fault) => Err(TraceError::Cut(fault)),
-    }
-}
-
 /// Writes each operation as it ends, so that memory does not grow with the run. Returns whether there was none.
-fn write_operations<W: Write, P: Progress>(
+pub(crate) fn write_operations<W: Write, P: Progress>(
     alloc: Global,
     plan: &OperationPlan,
     machine: &mut Machine,
@@ -148,13 +114,6 @@ fn write_operations<W: Write, P: Progress>(
     follower.end(None, &mut text)?;
     write_text(&text, out)?;
     Ok(is_empty && text.is_empty())
-}
-
-fn write_text<W: Write>(text: &String, out: &mut W) -> Result<(), TraceFault> {
-    match write_in_full(out, text.as_bytes()) {
-        Ok(()) => Ok(()),
-        Err(_) => Err(TraceFault::Write),
-    }
 }
 
 impl<'a> Follower<'a> {

@@ -4,8 +4,8 @@ ghost use Rattle.agc_run_commands.specs.Ended.{EndsWith};
 
 use crate::fault::{AnalysisFault, FAULTY};
 use crate::streams::Streams;
-use crate::traces::{TraceError, status_of_trace_error};
-use agc_io::{OK, ReadError, TEXT_BYTES, read_limited, status_of, write_in_full};
+use crate::traces::{TraceError, status_of_trace_error, write_text};
+use agc_io::{OK, ReadError, TEXT_BYTES, read_limited, status_of};
 use agc_load::LoadFault;
 use agc_quantities::{
     FILE_BYTES, Pair, QuantitiesFault, SentList, list_at, pairs_in, push_list_fault,
@@ -161,11 +161,4 @@ fn write_table<W: Write>(
         }
     }
     Ok(rows)
-}
-
-fn write_text<W: Write>(text: &String, out: &mut W) -> Result<(), TraceFault> {
-    match write_in_full(out, text.as_bytes()) {
-        Ok(()) => Ok(()),
-        Err(_) => Err(TraceFault::Write),
-    }
 }

@@ -38,5 +38,7 @@ pub use inputs::{read_symbols, report_fault};
 pub use new_files::{check_new_file, check_new_paths, check_paths_beside, is_written};
 pub use remarks::{RunStop, remark_on_start, stop_of};
 pub use streams::Streams;
-pub use traces::{TraceError, Traced, remark_service, status_of_trace_error, trace_files};
+pub use traces::{
+    TraceError, Traced, remark_service, status_of_trace_error, trace_files, write_text,
+};
 pub use watches::watch_files;

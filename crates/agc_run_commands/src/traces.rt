@@ -1,10 +1,10 @@
 //! Reads a rope and a script, and writes the trace of their run.
-ghost use Rattle.std.specs.Prelude.{IfErr, IfOk, OnOk};
+ghost use Rattle.std.specs.Prelude.{IfErr, IfOk, OnOk, string_bytes};
 ghost use Rattle.std.specs.Io.KnownBytes.{Appends};
 ghost use Rattle.agc_run_commands.specs.Traced.{EndsUntraced, IsTraced, IsUntraced, service_line};
 
 use crate::fault::AnalysisFault;
-use agc_io::{Progress, WRITE_FAILED};
+use agc_io::{Progress, WRITE_FAILED, write_in_full};
 use agc_load::LoadFault;
 use agc_machine::Machine;
 use agc_study_args::{RunInputs, TraceArgs, read_machine};
@@ -54,6 +54,17 @@ pub fn trace_files<R: Read, W: Write, P: Progress>(
     match trace(alloc, &mut machine, &args.selection, form, out, progress) {
         Ok(service) => Ok(Traced { machine, service }),
         Err(fault) => Err(TraceError::Cut(fault)),
+    }
+}
+
+/// Writes a text. If that fails, what is written of a run is cut off.
+pub fn write_text<W: Write>(text: &String, out: &mut W) -> Result<(), TraceFault>
+    ensures { OnOk result
+        (Appends (W.contents out.old) (W.contents out.new) (string_bytes text.now)) }
+{
+    match write_in_full(out, text.as_bytes()) {
+        Ok(()) => Ok(()),
+        Err(_) => Err(TraceFault::Write),
     }
 }
 
