@@ -1,8 +1,8 @@
 //! The names of operations by what the accumulator holds: one code stands for an operation on scalars and one on vectors.
 use std::alloc::{AllocError, Global};
 
-/// Operations with one code: the name for a scalar, then that for a vector. A word of the general shift tells how a scalar is
-/// rounded, but not how a vector is.
+/// Operations with one code: the name for a scalar, then that for a vector. A word of the general shift names the rounding of a
+/// scalar, but not that of a vector.
 const NAMES: [(&str, &str); 22] = [
     ("DCOMP", "VCOMP"),
     ("ABS", "ABVAL"),
