@@ -220,9 +220,14 @@ fn form_remark(alloc: Global, form: RopeForm, words: &[u16]) -> Result<String, A
         with_bit = with_bit.saturating_add(usize::from(*word % 2));
     }
     if form == RopeForm::Classic && with_bit > 0 {
+        let counted = if with_bit == 1 {
+            "word of the rope has"
+        } else {
+            "words of the rope have"
+        };
         writeln!(
             remark,
-            "agc-study: {with_bit} words of the rope have a parity bit: if it has parity, give --form parity, whose banks are in another order"
+            "agc-study: {with_bit} {counted} a parity bit: if it has parity, give --form parity, whose banks are in another order"
         )?;
     }
     Ok(remark)
