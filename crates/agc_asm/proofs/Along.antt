@@ -15,7 +15,7 @@ use Rattle.agc_encode.specs.declared.location_counter.At.{At}
 use Rattle.agc_encode.specs.declared.location_counter.At.TheVariants as at
 use Rattle.agc_encode.specs.declared.location_counter.LocationCounter.{LocationCounter}
 use Rattle.agc_encode.specs.declared.line_kind.LineKind.TheVariants as kind
-use Rattle.agc_encode.specs.declared.source_fault.SourceFault.TheVariants as fault
+use Rattle.agc_vocabulary.specs.declared.source_fault.SourceFault.TheVariants as fault
 use Rattle.agc_listing.specs.declared.location.Location.{Location}
 use Rattle.agc_listing.specs.declared.location.Location.TheVariants as location
 use Rattle.agc_encode.proofs.Held.{GoesIntoRope}

@@ -1,5 +1,5 @@
 -- The source of a rope names the words of the rope, and so assembles to it.
-use Rattle.agc_encode.specs.Body.{body_in, plain_line, has_non_ascii_comment, is_include, spelled}
+use Rattle.agc_vocabulary.specs.Body.{body_in, plain_line, has_non_ascii_comment, is_include, spelled}
 use Rattle.agc_encode.specs.Interpretive.{column_of, is_basic, role_by, role_of, spoken_words}
 use Rattle.agc_encode.specs.declared.role.Role.{Role}
 use Rattle.agc_encode.specs.declared.role.Role.TheVariants as role
@@ -27,8 +27,8 @@ use Rattle.agc_listing.specs.declared.fault.WeaveFault.TheVariants as weave
 use Rattle.agc_listing.proofs.Listings.{rope_of_words}
 use Rattle.agc_asm.specs.Laws.{WeavesTo}
 use Rattle.agc_listing.proofs.Woven.{next_parsed}
-use Rattle.agc_encode.specs.declared.source_fault.SourceFault.{SourceFault}
-use Rattle.agc_encode.specs.declared.source_fault.SourceFault.TheVariants as fault
+use Rattle.agc_vocabulary.specs.declared.source_fault.SourceFault.{SourceFault}
+use Rattle.agc_vocabulary.specs.declared.source_fault.SourceFault.TheVariants as fault
 use Rattle.agc_asm.specs.declared.fault.AssemblyFault.TheVariants as trouble
 use Rattle.agc_asm.proofs.Passes.{next_woven}
 use Rattle.agc_asm.specs.declared.pass2.Step.{Step}
@@ -36,7 +36,7 @@ use Rattle.agc_listing.specs.declared.fault.LineFault.{LineFault}
 use Rattle.agc_listing.specs.declared.line.PlacedWord.{PlacedWord}
 use Rattle.agc_asm.specs.Source.{as_source, two_added, first_names, first_state, is_listing, assemble_line, listed_woven, IsSourceWoven, names_in, source_in, words_from, words_in, due_from, is_listing_line}
 use Rattle.agc_asm.specs.declared.pass2.State.{State}
-use Rattle.agc_encode.specs.Name.{Naming}
+use Rattle.agc_vocabulary.specs.Name.{Naming}
 use Rattle.agc_listing.specs.Text.{are_listed, parsed_by}
 
 -- A line of a listing is read as it is.

@@ -1,5 +1,5 @@
 -- A pass over a source reports the fault of its first faulty line, whatever lines follow it.
-use Rattle.agc_encode.specs.Body.{line_label, plain_line}
+use Rattle.agc_vocabulary.specs.Body.{line_label, plain_line}
 use Rattle.std.specs.Prelude.{◌≡◌, ℕ, zero, suc, ◌+◌, List, [], ◌∷◌, take, Result, Ok, Err}
 use Rattle.std.proofs.Common.{refl, sym, ◌∙◌}
 use Rattle.agc_listing.specs.declared.line.PlacedWord.{PlacedWord}
@@ -8,8 +8,8 @@ use Rattle.agc_encode.specs.declared.location_counter.LocationCounter.{LocationC
 use Rattle.agc_asm.specs.declared.pass1.Labelled.{Labelled}
 use Rattle.agc_asm.specs.declared.pass2.State.{State}
 use Rattle.agc_asm.specs.declared.pass2.Step.{Step}
-use Rattle.agc_encode.specs.Name.{Naming}
-use Rattle.agc_encode.specs.declared.source_fault.SourceFault.{SourceFault}
+use Rattle.agc_vocabulary.specs.Name.{Naming}
+use Rattle.agc_vocabulary.specs.declared.source_fault.SourceFault.{SourceFault}
 use Rattle.agc_asm.specs.declared.fault.AssemblyFault.{AssemblyFault}
 use Rattle.agc_asm.specs.declared.fault.AssemblyFault.TheVariants as trouble
 use Rattle.agc_asm.proofs.Passes.{next_named, next_woven}

@@ -17,7 +17,7 @@ use Rattle.agc_listing.specs.declared.line.PlacedWord.{PlacedWord}
 use Rattle.agc_listing.proofs.FileWords.{index_apart, length_on, on_word, put_at, put_beside}
 use Rattle.agc_asm.specs.Source.{word_added, words_from}
 use Rattle.agc_asm.specs.declared.pass2.State.{State}
-use Rattle.agc_encode.specs.Name.{Naming}
+use Rattle.agc_vocabulary.specs.Name.{Naming}
 use Rattle.agc_asm.proofs.Stepped.{added, both, none_added, none_left, stepped}
 
 -- a word is at its place in a file

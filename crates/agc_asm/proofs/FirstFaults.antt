@@ -1,5 +1,5 @@
 -- The fault that a pass over a source reports is the first in it.
-use Rattle.agc_encode.specs.Body.{line_label, plain_line}
+use Rattle.agc_vocabulary.specs.Body.{line_label, plain_line}
 use Rattle.std.specs.Prelude.{◌≡◌, ℕ, suc, ◌+◌, ◌-◌, ◌<◌, true, false, List, [], ◌∷◌, length, take, Option, Some, None, option_map, Result, Ok, Err, IsOk, ◌⊎◌}
 use Rattle.std.proofs.Common.{refl, ap, sym, ◌∙◌, arith, inl, inr}
 use Rattle.agc_word.specs.Text.{lines_of}
@@ -12,9 +12,9 @@ use Rattle.agc_encode.specs.declared.location_counter.LocationCounter.{LocationC
 use Rattle.agc_asm.specs.declared.pass1.Labelled.{Labelled}
 use Rattle.agc_asm.specs.declared.pass2.State.{State}
 use Rattle.agc_asm.specs.declared.pass2.Step.{Step}
-use Rattle.agc_encode.specs.Name.{Naming, own_names}
-use Rattle.agc_encode.specs.declared.source_fault.SourceFault.{SourceFault}
-use Rattle.agc_encode.specs.declared.source_fault.SourceFault.TheVariants as fault
+use Rattle.agc_vocabulary.specs.Name.{Naming, own_names}
+use Rattle.agc_vocabulary.specs.declared.source_fault.SourceFault.{SourceFault}
+use Rattle.agc_vocabulary.specs.declared.source_fault.SourceFault.TheVariants as fault
 use Rattle.agc_asm.specs.declared.fault.AssemblyFault.{AssemblyFault}
 use Rattle.agc_interpretive.specs.Pending.{fault_at_end}
 use Rattle.agc_interpretive.specs.declared.fault.Fault.{Fault}

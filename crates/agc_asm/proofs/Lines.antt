@@ -16,24 +16,24 @@ use Rattle.agc_listing.specs.Weave.{is_named}
 use Rattle.agc_listing.specs.declared.line.PlacedWord.{PlacedWord}
 use Rattle.agc_encode.specs.LineKind.{kind_by, kind_of, after_line_words}
 use Rattle.agc_encode.specs.Interpretive.{column_of, is_basic, is_basic_word, role_by, role_of, spoken_words}
-use Rattle.agc_encode.specs.Mnemonic.{directive_named, is_order}
+use Rattle.agc_vocabulary.specs.Mnemonic.{directive_named, is_order}
 use Rattle.agc_encode.specs.UnknownOperation.{unknown_operation}
 use Rattle.agc_encode.specs.declared.line_kind.LineKind.{LineKind}
-use Rattle.agc_encode.specs.declared.mnemonic.Directive.{Directive}
+use Rattle.agc_vocabulary.specs.declared.mnemonic.Directive.{Directive}
 use Rattle.agc_encode.specs.declared.role.Role.TheVariants as role
 use Rattle.agc_interpretive.specs.Pending.{fault_at_end, nothing_due, takes_line}
 use Rattle.agc_interpretive.specs.declared.pending.Pending.{Pending}
 use Rattle.agc_asm.specs.Source.{two_added, define_label, assemble_line, names_from, naming_after, due_from, word_at, words_from}
 use Rattle.agc_encode.specs.declared.line_kind.LineKind.TheVariants as kind
 use Rattle.agc_asm.specs.declared.pass2.State.{State}
-use Rattle.agc_encode.specs.Name.{Naming}
+use Rattle.agc_vocabulary.specs.Name.{Naming}
 use Rattle.agc_listing.specs.Text.{are_listed, body_of, label_of, parsed_by}
 use Rattle.agc_asm.proofs.Orders.{IsPlain, Says}
-use Rattle.agc_encode.specs.Body.{line_label, body_in, spelled, plain_line, has_non_ascii_comment, is_include}
+use Rattle.agc_vocabulary.specs.Body.{line_label, body_in, spelled, plain_line, has_non_ascii_comment, is_include}
 use Rattle.agc_encode.specs.Encode.{banks_after, is_banked}
 use Rattle.agc_asm.proofs.Passes.{next_due, next_named, next_woven}
 use Rattle.agc_encode.specs.declared.location_counter.At.TheVariants as at
-use Rattle.agc_encode.specs.declared.source_fault.SourceFault.TheVariants as fault
+use Rattle.agc_vocabulary.specs.declared.source_fault.SourceFault.TheVariants as fault
 use Rattle.agc_encode.specs.declared.location_counter.LocationCounter.{LocationCounter}
 use Rattle.agc_listing.specs.declared.location.Location.TheVariants as location
 

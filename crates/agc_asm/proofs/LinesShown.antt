@@ -8,13 +8,13 @@ use Rattle.agc_store.specs.Memory.{fixed_at}
 use Rattle.agc_listing.specs.Line.{line_named}
 use Rattle.agc_listing.specs.declared.fault.LineFault.{LineFault}
 use Rattle.agc_listing.specs.declared.line.PlacedWord.{PlacedWord}
-use Rattle.agc_encode.specs.Name.{Naming}
+use Rattle.agc_vocabulary.specs.Name.{Naming}
 use Rattle.agc_listing.specs.Text.{after_first, are_listed, parsed_by}
 use Rattle.agc_listing.specs.Order.{next_is_extracode}
-use Rattle.agc_encode.specs.Body.{body_in, spelled, plain_line}
+use Rattle.agc_vocabulary.specs.Body.{body_in, spelled, plain_line}
 use Rattle.agc_encode.specs.Operand.{location_in}
 use Rattle.agc_encode.specs.declared.encode.Banks.{Banks}
-use Rattle.agc_encode.specs.declared.source_fault.SourceFault.{SourceFault}
+use Rattle.agc_vocabulary.specs.declared.source_fault.SourceFault.{SourceFault}
 use Rattle.agc_encode.specs.LocationCounter.{after_words, due_there, room_at, after_cells}
 use Rattle.agc_encode.specs.Encode.{cell_in, encode_pair, place_in, encode_word, writes_order}
 use Rattle.agc_asm.specs.OrderLines.{OrderLine, mnemonic_in, mnemonic_of, order_of, order_placed, order_words, orders_from, since_after, mnemonic_at, mnemonics_from, basic_stays, is_interpretive, is_other}

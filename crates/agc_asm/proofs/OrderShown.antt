@@ -13,7 +13,7 @@ use Rattle.agc_store.specs.Memory.{fixed_at}
 use Rattle.agc_listing.specs.List.{is_extracode_at, line_text, listed_line}
 use Rattle.agc_listing.specs.Order.{basic_text, extracode_text, operand_in, operand_text, order_text}
 use Rattle.agc_listing.specs.declared.order.Operand.{Operand}
-use Rattle.agc_encode.specs.Mnemonic.{basic_named, extracode_named}
+use Rattle.agc_vocabulary.specs.Mnemonic.{basic_named, extracode_named}
 use Rattle.agc_encode.specs.Row.{basic_word, extracode_word}
 use Rattle.agc_asm.specs.OrderLines.{HasOrder, IsListed, IsReadAlong, Names, OrderLine, row_of}
 use Rattle.agc_encode.proofs.BasicRows.{names_it as basic_names, shows_it as basic_shows}

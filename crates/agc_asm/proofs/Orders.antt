@@ -26,21 +26,21 @@ use Rattle.agc_encode.specs.LineKind.{kind_of}
 use Rattle.agc_encode.specs.Disassemble.{shows_order, order_or_digits}
 use Rattle.agc_listing.specs.Location.{begins_with_e, location_named}
 use Rattle.agc_listing.specs.declared.location.Location.TheVariants as location
-use Rattle.agc_encode.specs.declared.mnemonic.Directive.TheVariants as directive
+use Rattle.agc_vocabulary.specs.declared.mnemonic.Directive.TheVariants as directive
 use Rattle.agc_listing.specs.List.{listed_place}
 use Rattle.agc_listing.specs.Place.{place_text}
 use Rattle.agc_listing.proofs.OrderPrints.{order_prints}
 use Rattle.agc_listing.proofs.PlaceBack.{place_back, place_is_no_comment, place_is_some}
 use Rattle.agc_encode.specs.declared.line_kind.LineKind.TheVariants as kind
-use Rattle.agc_encode.specs.Mnemonic.{all_directives, directive_name, directive_named, is_order}
-use Rattle.agc_encode.specs.declared.source_fault.SourceFault.TheVariants as fault
-use Rattle.agc_encode.specs.Name.{Naming}
+use Rattle.agc_vocabulary.specs.Mnemonic.{all_directives, directive_name, directive_named, is_order}
+use Rattle.agc_vocabulary.specs.declared.source_fault.SourceFault.TheVariants as fault
+use Rattle.agc_vocabulary.specs.Name.{Naming}
 use Rattle.agc_listing.specs.Number.{begins_with_minus, is_sign, octal_word, offset_parsed, without_sign}
 use Rattle.agc_listing.specs.List.{listed_address}
-use Rattle.agc_encode.specs.Body.{alias_in, alias_name, alias_named, all_aliases, is_hash_byte, spelled, uncommented, without_adornment}
+use Rattle.agc_vocabulary.specs.Body.{alias_in, alias_name, alias_named, all_aliases, is_hash_byte, spelled, uncommented, without_adornment}
 use Rattle.agc_encode.specs.declared.encode.Banks.{Banks}
 use Rattle.agc_listing.specs.Text.{are_listed, is_place_text, parsed_by}
-use Rattle.agc_encode.proofs.Cut.{IsWord, says_one, says_two}
+use Rattle.agc_vocabulary.proofs.Cut.{IsWord, says_one, says_two}
 use Rattle.agc_encode.proofs.Rows.{IsMnemonic, basic_by_name, basic_mnemonic, extracode_by_name, extracode_mnemonic, own_basic, own_extracode}
 
 -- digits are a word, and neither a comment nor an offset

@@ -10,14 +10,14 @@ use Rattle.agc_order.specs.declared.order.Extracode.{Extracode}
 use Rattle.agc_store.specs.Memory.{fixed_at}
 use Rattle.agc_listing.specs.List.{is_extracode_at}
 use Rattle.agc_listing.specs.declared.order.Operand.{Operand}
-use Rattle.agc_encode.specs.Mnemonic.{basic_named, directive_named, extracode_named, is_order}
-use Rattle.agc_encode.specs.Name.{Naming}
+use Rattle.agc_vocabulary.specs.Mnemonic.{basic_named, directive_named, extracode_named, is_order}
+use Rattle.agc_vocabulary.specs.Name.{Naming}
 use Rattle.agc_encode.specs.Row.{as_word, basic_word, extracode_word, meant, meant_operand}
-use Rattle.agc_encode.specs.declared.source_fault.SourceFault.{SourceFault}
-use Rattle.agc_encode.specs.declared.mnemonic.Directive.{Directive}
-use Rattle.agc_encode.specs.Body.{alias_in, has_minus, spelled}
+use Rattle.agc_vocabulary.specs.declared.source_fault.SourceFault.{SourceFault}
+use Rattle.agc_vocabulary.specs.declared.mnemonic.Directive.{Directive}
+use Rattle.agc_vocabulary.specs.Body.{alias_in, has_minus, spelled}
 use Rattle.agc_encode.specs.Encode.{basic_with, complemented_word, extracode_with, if_basic, if_extracode, is_order_by, is_order_spelled, offset_below_zero, operand_fault, order_by_offset, encode_order, plain_meaning, unless_fault, word_by, encode_word, writes_order}
-use Rattle.agc_encode.specs.declared.alias.Alias.{Alias}
+use Rattle.agc_vocabulary.specs.declared.alias.Alias.{Alias}
 use Rattle.agc_encode.specs.declared.encode.Banks.{Banks}
 use Rattle.agc_encode.specs.Operand.{operand_for, value_of}
 use Rattle.agc_asm.specs.OrderLines.{OrderLine, mnemonic_in, operand_read, order_at, order_placed, order_with, order_words, row_named}

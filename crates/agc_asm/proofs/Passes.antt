@@ -1,8 +1,8 @@
 -- Both passes over a source, line by line.
-use Rattle.agc_encode.specs.Body.{line_label, plain_line}
+use Rattle.agc_vocabulary.specs.Body.{line_label, plain_line}
 use Rattle.std.specs.Prelude.{◌≡◌, ℕ, ◌+◌, List, ◌∷◌, Ok}
 use Rattle.agc_listing.specs.declared.line.PlacedWord.{PlacedWord}
-use Rattle.agc_encode.specs.Name.{Naming}
+use Rattle.agc_vocabulary.specs.Name.{Naming}
 use Rattle.agc_asm.specs.Source.{define_label, assemble_line, due_from, names_from, naming_after, two_added, words_from}
 use Rattle.agc_encode.specs.declared.location_counter.LocationCounter.{LocationCounter}
 use Rattle.agc_asm.specs.declared.pass1.Labelled.{Labelled}

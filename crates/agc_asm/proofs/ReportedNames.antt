@@ -19,18 +19,18 @@ use Rattle.agc_encode.specs.declared.location_counter.LocationCounter.{LocationC
 use Rattle.agc_asm.specs.declared.pass1.Labelled.{Labelled}
 use Rattle.agc_encode.specs.declared.line_kind.LineKind.{LineKind}
 use Rattle.agc_listing.specs.Location.{IsWithin}
-use Rattle.agc_encode.specs.Body.{line_label, body_in, spelled, plain_line, is_include}
+use Rattle.agc_vocabulary.specs.Body.{line_label, body_in, spelled, plain_line, is_include}
 use Rattle.agc_encode.specs.Interpretive.{due_behind, role_of, spoken_words}
 use Rattle.agc_encode.specs.declared.line_kind.LineKind.TheVariants as kind
 use Rattle.agc_encode.specs.declared.role.Role.{Role}
 use Rattle.agc_encode.specs.declared.role.Role.TheVariants as role
 use Rattle.agc_interpretive.specs.declared.pending.Pending.{Pending}
-use Rattle.agc_encode.specs.Name.{Naming}
+use Rattle.agc_vocabulary.specs.Name.{Naming}
 use Rattle.agc_listing.specs.Text.{are_listed, is_name, parsed_by}
-use Rattle.agc_encode.specs.declared.source_fault.SourceFault.{SourceFault}
-use Rattle.agc_encode.specs.declared.source_fault.SourceFault.TheVariants as fault
+use Rattle.agc_vocabulary.specs.declared.source_fault.SourceFault.{SourceFault}
+use Rattle.agc_vocabulary.specs.declared.source_fault.SourceFault.TheVariants as fault
 use Rattle.agc_listing.specs.declared.location.Location.{Location}
-use Rattle.agc_encode.proofs.LabelWords.{label_is_word}
+use Rattle.agc_vocabulary.proofs.LabelWords.{label_is_word}
 
 -- The name of a line that has a location is a name, and the line is text.
 

@@ -1,6 +1,6 @@
 -- The rope that a source assembles to, and its listing, have the orders that the source writes.
 use Rattle.agc_asm.proofs.Back.{plain_listed, listed_is}
-use Rattle.agc_encode.specs.Body.{plain_line}
+use Rattle.agc_vocabulary.specs.Body.{plain_line}
 use Rattle.std.specs.Prelude.{◌≡◌, ℕ, Bool, true, false, ◌||◌, All, List, [], ◌∷◌, length, map, Option, Some, None, Result, Ok, Err}
 use Rattle.std.specs.List.{list_all}
 use Rattle.std.proofs.Common.{refl, ◌∙◌, arith}
@@ -14,12 +14,12 @@ use Rattle.agc_word.specs.Text.{lines_of}
 use Rattle.agc_listing.specs.Weave.{woven_file}
 use Rattle.agc_listing.specs.declared.line.PlacedWord.{PlacedWord}
 use Rattle.agc_encode.specs.Interpretive.{role_of}
-use Rattle.agc_encode.specs.Name.{Naming}
+use Rattle.agc_vocabulary.specs.Name.{Naming}
 use Rattle.agc_interpretive.specs.Pending.{fault_at_end}
 use Rattle.agc_interpretive.specs.declared.fault.Fault.{Fault}
 use Rattle.agc_interpretive.specs.declared.pending.Pending.{Pending}
 use Rattle.agc_encode.specs.declared.location_counter.At.{At}
-use Rattle.agc_encode.specs.declared.source_fault.SourceFault.{SourceFault}
+use Rattle.agc_vocabulary.specs.declared.source_fault.SourceFault.{SourceFault}
 use Rattle.agc_asm.specs.declared.fault.AssemblyFault.{AssemblyFault}
 use Rattle.agc_asm.specs.OrderLines.{HasOrder, IsListed, IsReadAlong, OrderLine, mnemonics_in, order_of, orders_by, orders_from, orders_in, since_after, mnemonic_at, mnemonics_from, mnemonics_by, is_interpretive, is_other}
 use Rattle.agc_asm.specs.Source.{IsSourceWoven, first_state, is_listing, assemble_line, names_in, source_in, words_after_names, words_from, words_in, closed, due_from, ended, is_listing_line}

@@ -1,5 +1,5 @@
 -- A text whose second pass yields words: each line adds its own, after those of the lines before it.
-use Rattle.agc_encode.specs.Body.{plain_line}
+use Rattle.agc_vocabulary.specs.Body.{plain_line}
 use Rattle.std.specs.Prelude.{◌≡◌, ℕ, ◌+◌, Bool, true, false, All, List, [], ◌∷◌, ◌++◌, Option, Some, None, Result, Ok, Err, IfSome}
 use Rattle.std.proofs.Common.{refl, sym, ◌∙◌}
 use Rattle.std.proofs.lemmas.List.Elements.{All-cons, All-head, All-nil, All-tail}
@@ -9,9 +9,9 @@ use Rattle.agc_listing.specs.declared.line.PlacedWord.{PlacedWord}
 use Rattle.agc_asm.specs.Source.{also_added, two_added, assemble_line, word_added, words_from}
 use Rattle.agc_asm.specs.declared.pass2.State.{State}
 use Rattle.agc_asm.specs.declared.pass2.Step.{Step}
-use Rattle.agc_encode.specs.Name.{Naming}
-use Rattle.agc_encode.specs.declared.source_fault.SourceFault.{SourceFault}
-use Rattle.agc_encode.specs.declared.source_fault.SourceFault.TheVariants as fault
+use Rattle.agc_vocabulary.specs.Name.{Naming}
+use Rattle.agc_vocabulary.specs.declared.source_fault.SourceFault.{SourceFault}
+use Rattle.agc_vocabulary.specs.declared.source_fault.SourceFault.TheVariants as fault
 use Rattle.agc_asm.proofs.FaultsStay.{faulty_line, wrong_word}
 use Rattle.agc_asm.proofs.Passes.{next_woven}
 

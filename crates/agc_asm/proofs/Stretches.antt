@@ -21,9 +21,9 @@ use Rattle.agc_encode.specs.Disassemble.{follows_word, is_wanted_at, line_of, li
 use Rattle.agc_listing.specs.Text.{parsed_by}
 use Rattle.agc_encode.specs.declared.location_counter.LocationCounter.{LocationCounter}
 use Rattle.agc_asm.specs.declared.pass2.State.{State}
-use Rattle.agc_encode.specs.Name.{Naming}
+use Rattle.agc_vocabulary.specs.Name.{Naming}
 use Rattle.agc_listing.specs.declared.location.Location.TheVariants as location
-use Rattle.agc_encode.proofs.Cut.{lines_more, no_lines}
+use Rattle.agc_vocabulary.proofs.Cut.{lines_more, no_lines}
 use Rattle.agc_asm.proofs.Lines.{IsHere, IsLine, Stands, after_word, due_move, due_word, is_line, moved_banks, moved_here, names_move, names_word, skips, state_after, state_moved, words_move, words_word}
 use Rattle.agc_asm.proofs.Orders.{place_line, place_line_moves, place_line_plain, place_line_prints, place_line_unlisted, word_line, word_line_prints, word_line_says, word_line_unlisted}
 

@@ -6,9 +6,9 @@ use Rattle.agc_order.specs.declared.order.Extracode.{Extracode}
 use Rattle.agc_order.specs.declared.row.Takes.{Takes}
 use Rattle.agc_order.specs.declared.row.Takes.TheVariants as takes
 use Rattle.agc_listing.specs.Text.{are_listed, is_name, parsed_by}
-use Rattle.agc_encode.specs.Body.{body_in, plain_line, spelled}
-use Rattle.agc_encode.specs.Mnemonic.{extracode_named}
-use Rattle.agc_encode.specs.Name.{Naming, with_channel}
+use Rattle.agc_vocabulary.specs.Body.{body_in, plain_line, spelled}
+use Rattle.agc_vocabulary.specs.Mnemonic.{extracode_named}
+use Rattle.agc_vocabulary.specs.Name.{Naming, with_channel}
 
 -- an order that reads or writes a channel
 abbrev pub is_channel : Takes → Bool

@@ -2,13 +2,13 @@
 use Rattle.std.specs.Prelude.{◌≡◌, ◌⊎◌, ℕ, ◌-◌, ◌≤◌, List, [], length, take, Some, option_map, Result, Ok, Err, IsOk, false}
 use Rattle.agc_listing.specs.declared.line.PlacedWord.{PlacedWord}
 use Rattle.agc_word.specs.Text.{lines_of}
-use Rattle.agc_encode.specs.Name.{Naming}
-use Rattle.agc_encode.specs.declared.source_fault.SourceFault.{SourceFault}
+use Rattle.agc_vocabulary.specs.Name.{Naming}
+use Rattle.agc_vocabulary.specs.declared.source_fault.SourceFault.{SourceFault}
 use Rattle.agc_asm.specs.declared.fault.AssemblyFault.{AssemblyFault}
 use Rattle.agc_asm.specs.declared.fault.AssemblyFault.TheVariants as trouble
 use Rattle.agc_encode.specs.LocationCounter.{first_counter}
 use Rattle.agc_asm.specs.Source.{due_from, first_names, first_state, names_from, names_in, words_from}
-use Rattle.agc_encode.specs.declared.source_fault.SourceFault.TheVariants as fault
+use Rattle.agc_vocabulary.specs.declared.source_fault.SourceFault.TheVariants as fault
 use Rattle.agc_interpretive.specs.Pending.{fault_at_end}
 
 -- a pass over lines: its result, or a fault

@@ -2,10 +2,10 @@
 use Rattle.std.specs.Prelude.{◌≡◌, ℕ, List, ◌++◌, codes, Result, Ok, Err}
 use Rattle.std.specs.Fmt.{decimal}
 use Rattle.agc_asm.specs.Source.{source_in}
-use Rattle.agc_encode.specs.FaultText.{fault_text}
-use Rattle.agc_encode.specs.declared.source_fault.SourceFault.{SourceFault}
+use Rattle.agc_vocabulary.specs.FaultText.{fault_text}
+use Rattle.agc_vocabulary.specs.declared.source_fault.SourceFault.{SourceFault}
 use Rattle.agc_listing.specs.declared.fault.LineFault.TheVariants as line
-use Rattle.agc_encode.specs.declared.source_fault.SourceFault.TheVariants as fault
+use Rattle.agc_vocabulary.specs.declared.source_fault.SourceFault.TheVariants as fault
 use Rattle.agc_asm.specs.declared.fault.AssemblyFault.{AssemblyFault}
 use Rattle.agc_asm.specs.declared.fault.AssemblyFault.TheVariants as trouble
 

@@ -11,7 +11,7 @@ use Rattle.agc_word.specs.Text.{lines_of, words_of}
 use Rattle.agc_listing.specs.Line.{line_named}
 use Rattle.agc_listing.specs.declared.fault.LineFault.{LineFault}
 use Rattle.agc_listing.specs.declared.line.PlacedWord.{PlacedWord}
-use Rattle.agc_encode.specs.Mnemonic.{basic_named, extracode_named}
+use Rattle.agc_vocabulary.specs.Mnemonic.{basic_named, extracode_named}
 use Rattle.agc_asm.specs.declared.mnemonic_check.Misnamed.{Misnamed}
 use Rattle.agc_asm.specs.declared.mnemonic_check.Written.{Written}
 use Rattle.agc_asm.specs.declared.mnemonic_check.Written.TheVariants as kind

@@ -3,10 +3,10 @@ use Rattle.std.specs.Prelude.{ℕ, ◌++◌, List, [], ◌∷◌, Option, Some, 
 use Rattle.agc_word.specs.Text.{lines_of}
 use Rattle.agc_symbols.specs.Symbols.{Symbol}
 use Rattle.agc_symbols.specs.Writing.{names_text}
-use Rattle.agc_encode.specs.Body.{line_label, plain_line}
+use Rattle.agc_vocabulary.specs.Body.{line_label, plain_line}
 use Rattle.agc_encode.specs.LocationCounter.{first_counter}
 use Rattle.agc_asm.specs.Source.{first_names, define_label, naming_after}
-use Rattle.agc_encode.specs.Name.{Naming}
+use Rattle.agc_vocabulary.specs.Name.{Naming}
 use Rattle.agc_listing.specs.declared.location.Location.{Location}
 use Rattle.agc_encode.specs.declared.location_counter.LocationCounter.{LocationCounter}
 

@@ -16,16 +16,16 @@ use Rattle.agc_listing.specs.List.{is_extracode_at, listed_line, listed_place}
 use Rattle.agc_listing.specs.Order.{operand_in, operand_text}
 use Rattle.agc_listing.specs.Place.{place_text}
 use Rattle.agc_listing.specs.declared.order.Operand.{Operand}
-use Rattle.agc_encode.specs.Mnemonic.{basic_named, extracode_named}
-use Rattle.agc_encode.specs.Name.{Naming}
+use Rattle.agc_vocabulary.specs.Mnemonic.{basic_named, extracode_named}
+use Rattle.agc_vocabulary.specs.Name.{Naming}
 use Rattle.agc_listing.specs.Text.{are_listed, parsed_by}
-use Rattle.agc_encode.specs.Body.{body_in, plain_line, spelled}
+use Rattle.agc_vocabulary.specs.Body.{body_in, plain_line, spelled}
 use Rattle.agc_encode.specs.Encode.{writes_order}
 use Rattle.agc_encode.specs.Interpretive.{role_of}
 use Rattle.agc_encode.specs.declared.role.Role.{Role}
 use Rattle.agc_encode.specs.declared.role.Role.TheVariants as role
-use Rattle.agc_encode.specs.declared.source_fault.SourceFault.{SourceFault}
-use Rattle.agc_encode.specs.declared.source_fault.SourceFault.TheVariants as fault
+use Rattle.agc_vocabulary.specs.declared.source_fault.SourceFault.{SourceFault}
+use Rattle.agc_vocabulary.specs.declared.source_fault.SourceFault.TheVariants as fault
 use Rattle.agc_asm.specs.declared.fault.AssemblyFault.{AssemblyFault}
 use Rattle.agc_listing.specs.declared.location.Location.{Location}
 use Rattle.agc_listing.specs.declared.location.Location.TheVariants as location

@@ -18,20 +18,20 @@ use Rattle.agc_listing.specs.declared.fault.WeaveFault.{WeaveFault}
 use Rattle.agc_listing.specs.declared.fault.WeaveFault.TheVariants as weave
 use Rattle.agc_listing.specs.declared.line.PlacedWord.{PlacedWord}
 use Rattle.agc_store.specs.Places.{erasable_bank_size, erasable_cells, fixed_fixed}
-use Rattle.agc_encode.specs.Body.{line_label, body_in, has_non_ascii_comment, is_include, plain_line, spelled}
+use Rattle.agc_vocabulary.specs.Body.{line_label, body_in, has_non_ascii_comment, is_include, plain_line, spelled}
 use Rattle.agc_encode.specs.Interpretive.{due_behind, role_of, spoken_meaning, spoken_words}
 use Rattle.agc_encode.specs.LocationCounter.{IsAt, after_cells, after_words, due_there, first_counter, location_at, room_at}
 use Rattle.agc_encode.specs.Encode.{banks_after, cell_in, is_banked, encode_pair, place_in, superbank, encode_word, writes_order}
 use Rattle.agc_asm.specs.Channels.{channels_from}
-use Rattle.agc_encode.specs.Name.{Naming, guessing, known, no_name, with_name}
+use Rattle.agc_vocabulary.specs.Name.{Naming, guessing, known, no_name, with_name}
 use Rattle.agc_encode.specs.Operand.{location_apart, location_beside, location_in}
 use Rattle.agc_encode.specs.LineKind.{counter_after, kind_of}
 use Rattle.agc_listing.specs.Text.{after_first, are_listed, is_name, parsed_by}
 use Rattle.agc_encode.specs.declared.location_counter.At.{At}
 use Rattle.agc_encode.specs.declared.location_counter.At.TheVariants as at
 use Rattle.agc_encode.specs.declared.location_counter.LocationCounter.{LocationCounter}
-use Rattle.agc_encode.specs.declared.source_fault.SourceFault.{SourceFault}
-use Rattle.agc_encode.specs.declared.source_fault.SourceFault.TheVariants as fault
+use Rattle.agc_vocabulary.specs.declared.source_fault.SourceFault.{SourceFault}
+use Rattle.agc_vocabulary.specs.declared.source_fault.SourceFault.TheVariants as fault
 use Rattle.agc_asm.specs.declared.fault.AssemblyFault.{AssemblyFault}
 use Rattle.agc_asm.specs.declared.fault.AssemblyFault.TheVariants as trouble
 use Rattle.agc_asm.specs.declared.pass1.Labelled.{Labelled}

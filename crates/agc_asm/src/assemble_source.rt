@@ -10,9 +10,10 @@ use crate::fault::AssemblyFault;
 use crate::pass1::read_names;
 use crate::pass2::read_words;
 use crate::source_lines::overlapped_line;
-use agc_encode::{SourceFault, has_non_ascii_comment, parse_lines};
+use agc_encode::parse_lines;
 use agc_listing::{LineFault, RopeBuilder, WeaveFault, file_of, is_listed, weave};
 use agc_store::RopeForm;
+use agc_vocabulary::{SourceFault, has_non_ascii_comment};
 use agc_word::next_line;
 use std::alloc::Global;
 

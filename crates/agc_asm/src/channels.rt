@@ -1,13 +1,14 @@
 //! Collects the names that the orders of a source take as channels.
 ghost use Rattle.std.specs.Prelude.{◌≡◌, IfOk, map, option_map};
-ghost use Rattle.agc_encode.specs.Body.{plain_line};
+ghost use Rattle.agc_vocabulary.specs.Body.{plain_line};
 ghost use Rattle.agc_asm.specs.Channels.{channels_from, is_both, line_channel, takes_channel_by};
-ghost use Rattle.agc_encode.specs.Mnemonic.{extracode_named};
-ghost use Rattle.agc_encode.specs.Name.{naming_of};
+ghost use Rattle.agc_vocabulary.specs.Mnemonic.{extracode_named};
+ghost use Rattle.agc_vocabulary.specs.Name.{naming_of};
 
-use agc_encode::{Names, SourceLine, extracode_named, next_token};
+use agc_encode::SourceLine;
 use agc_listing::is_name;
 use agc_order::Takes;
+use agc_vocabulary::{Names, extracode_named, next_token};
 use std::alloc::AllocError;
 
 /// Adds to these names those that the orders of a source take as channels.
@@ -33,7 +34,7 @@ pub(crate) fn note_channels<'a>(
 }
 
 /// Returns the name that a line's order takes as a channel's.
-#[tactic(auto, unfolding(crate::specs::Channels::line_channel, agc_encode::specs::Body::spelled))]
+#[tactic(auto, unfolding(crate::specs::Channels::line_channel, agc_vocabulary::specs::Body::spelled))]
 fn line_channel<'a>(line: &SourceLine<'a>) -> Option<&'a [u8]>
     ensures { option_map (λ name. name.now) result ≡ line_channel (plain_line line.now.text.now) }
 {

@@ -1,10 +1,10 @@
 //! Remarks on the erasable cells of a source that lie over registers or over other cells.
-use agc_encode::Directive;
 use agc_listing::{
     Cell, Location, cut_label, is_listed, location_named, next_parsed, offset_parsed, only_word,
     push_place,
 };
 use agc_store::place::ERASABLE_CELLS;
+use agc_vocabulary::Directive;
 use agc_word::without_return;
 use std::alloc::{AllocError, Global};
 

@@ -1,5 +1,5 @@
 //! Why a source cannot be assembled.
-use agc_encode::SourceFault;
+use agc_vocabulary::SourceFault;
 use std::alloc::AllocError;
 use std::error::Error;
 use std::fmt;

@@ -2,9 +2,9 @@
 ghost use Rattle.std.specs.Prelude.{◌≡◌, ◌+◌, ◌≤◌, length, take, drop, IfSome};
 ghost use Rattle.agc_asm.specs.FaultPlace.{IsWordOf};
 
-use agc_encode::{Directive, SourceFault, is_numeral, is_operation, is_scale, without_minus};
 use agc_interpretive::{Fault, Operation};
 use agc_listing::{LineFault, has_other_byte, is_listed, offset_parsed};
+use agc_vocabulary::{Directive, SourceFault, is_numeral, is_operation, is_scale, without_minus};
 
 /// A word of a line, and the byte column at which it begins, counted from 1.
 #[derive(Clone, Copy, Debug, PartialEq, Eq)]

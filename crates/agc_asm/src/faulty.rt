@@ -5,10 +5,11 @@ use crate::fault_place::word_at_fault;
 use crate::pass1::{define_label, first_names, note_label};
 use crate::pass2::{State, assemble_line};
 use agc_encode::{
-    LineKind, LocationCounter, Names, Role, SourceFault, SourceLine, counter_after, due_behind,
-    kind_of, parse_lines, role_of,
+    LineKind, LocationCounter, Role, SourceLine, counter_after, due_behind, kind_of, parse_lines,
+    role_of,
 };
 use agc_listing::is_no_text;
+use agc_vocabulary::{Names, SourceFault};
 use std::alloc::{AllocError, Global};
 use std::collections::BTreeMap;
 

@@ -4,8 +4,8 @@ ghost use Rattle.std.specs.Prelude.{◌≡◌, ℕ, true, false, All, List, Err,
 ghost use Rattle.agc_word.specs.Text.{lines_of};
 ghost use Rattle.agc_store.specs.RopeFile.{rope_words};
 ghost use Rattle.agc_store.specs.declared.rope_file.RopeForm.{RopeForm};
-ghost use Rattle.agc_encode.specs.Name.{own_names};
-ghost use Rattle.agc_encode.specs.declared.source_fault.SourceFault.{SourceFault};
+ghost use Rattle.agc_vocabulary.specs.Name.{own_names};
+ghost use Rattle.agc_vocabulary.specs.declared.source_fault.SourceFault.{SourceFault};
 ghost use Rattle.agc_asm.specs.FirstFault.{IsFirstFault, IsFirstOn, words_pass};
 ghost use Rattle.agc_asm.specs.OrderLines.{
   HasOrder,

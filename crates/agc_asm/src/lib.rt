@@ -22,8 +22,9 @@ mod source_lines;
 mod source_remark;
 mod symbol_file;
 
-pub use agc_encode::{Names, SourceFault, basic_word, extracode_word, is_order};
+pub use agc_encode::{basic_word, extracode_word};
 pub use agc_listing::Location;
+pub use agc_vocabulary::{Names, SourceFault, is_order};
 pub use assemble_source::assemble;
 pub use channel_names::source_symbols;
 pub use disassemble::rope_source;

@@ -1,6 +1,6 @@
 //! Remarks on lines of a source that skip an order.
-use agc_encode::{Alias, Directive, code_of, cut_line, is_order, next_token};
 use agc_listing::{is_listed, push_file_bytes};
+use agc_vocabulary::{Alias, Directive, code_of, cut_line, is_order, next_token};
 use agc_word::without_return;
 use std::alloc::{AllocError, Global};
 

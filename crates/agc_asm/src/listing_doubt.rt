@@ -1,11 +1,11 @@
 //! Finds the lines of a typed listing that are in doubt: their text is not their word's, or lines before them are missing.
-use agc_encode::{Alias, basic_named, code_of, extracode_named};
 use agc_listing::{
     Operand, PlacedWord, offset_parsed, operand_in, push_file_bytes, push_order, push_rope_place,
     read_line, words_of,
 };
 use agc_order::{Basic, Extracode, Row};
 use agc_store::place::FIXED_WORDS;
+use agc_vocabulary::{Alias, basic_named, code_of, extracode_named};
 use agc_word::{Narrow, read_octal, without_return};
 use std::alloc::{AllocError, Global};
 

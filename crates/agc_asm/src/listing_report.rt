@@ -10,9 +10,9 @@ use crate::faulty::counted_faults;
 use crate::listing_doubt::doubts;
 use crate::source_lines::overlapped_line;
 use crate::source_remark::{push_letter_below, push_source_why};
-use agc_encode::{SourceFault, code_of};
 use agc_listing::{LineFault, Report, push_file_line, push_quoted, push_quoted_then, words_of};
 use agc_store::RopeForm;
+use agc_vocabulary::{SourceFault, code_of};
 use agc_word::without_return;
 use std::alloc::{AllocError, Global};
 

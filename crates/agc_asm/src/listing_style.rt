@@ -9,7 +9,7 @@ ghost use Rattle.agc_store.specs.Places.{fixed_words};
 use crate::assemble_source::{is_listing, source_words};
 use crate::disassemble::rope_source;
 use crate::fault::AssemblyFault;
-use agc_encode::{Alias, Read, read_next};
+use agc_encode::{Read, read_next};
 use agc_listing::{
     Location, Operand, PlacedWord, file_of, is_in_selected_bank, listed_address, operand_in,
 };
@@ -17,6 +17,7 @@ use agc_order::{Basic, Extracode, Row, Takes};
 use agc_store::place::{FIXED_FIXED, FIXED_WORDS};
 use agc_store::{Rope, RopeFault, RopeForm, Store};
 use agc_symbols::SymbolTable;
+use agc_vocabulary::Alias;
 use agc_word::{Narrow, read_octal};
 use std::alloc::{AllocError, Global};
 

@@ -13,9 +13,9 @@ ghost use Rattle.agc_asm.specs.MnemonicCheck.{
   third_of,
 };
 
-use agc_encode::{basic_named, extracode_named};
 use agc_listing::read_line;
 use agc_order::{Basic, Extracode};
+use agc_vocabulary::{basic_named, extracode_named};
 use agc_word::{Narrow, next_line, next_word};
 
 /// An order whose mnemonic follows a word.

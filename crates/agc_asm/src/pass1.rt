@@ -1,9 +1,9 @@
 //! The first pass over a source: collects its names.
 ghost use Rattle.std.specs.Prelude.{◌≡◌, ◌≢◌, ◌<◌, None, Ok, Err, IfOk, IfErr, IfSome, IsOk, OnOk, map, option_map};
-ghost use Rattle.agc_encode.specs.Body.{line_label, plain_line};
+ghost use Rattle.agc_vocabulary.specs.Body.{line_label, plain_line};
 ghost use Rattle.agc_encode.specs.LocationCounter.{IsAt, first_counter};
 ghost use Rattle.agc_asm.specs.FaultText.{later_fault};
-ghost use Rattle.agc_encode.specs.Name.{given_of, guessing, naming_of};
+ghost use Rattle.agc_vocabulary.specs.Name.{given_of, guessing, naming_of};
 ghost use Rattle.agc_encode.specs.Interpretive.{spoken_words};
 ghost use Rattle.agc_encode.specs.LineKind.{IsKind, counter_after, kind_of};
 ghost use Rattle.agc_asm.specs.Source.{
@@ -31,12 +31,13 @@ ghost use Rattle.agc_asm.specs.declared.fault.AssemblyFault.TheVariants.{Memory}
 use crate::channels::note_channels;
 use crate::fault::AssemblyFault;
 use agc_encode::{
-    At, LineKind, LocationCounter, Names, Role, SourceFault, SourceLine, counter_after, due_behind,
-    is_include, kind_of, location_apart, location_beside, role_of,
+    At, LineKind, LocationCounter, Role, SourceLine, counter_after, due_behind, kind_of,
+    location_apart, location_beside, role_of,
 };
 use agc_interpretive::Pending;
 use agc_listing::{LineFault, Location, has_other_byte, is_name, read_line};
 use agc_store::place::ERASABLE_CELLS;
+use agc_vocabulary::{Names, SourceFault, is_include};
 use std::alloc::{AllocError, Global};
 
 /// The result of a line in the first pass: the location of its name, and where the next line goes.
@@ -188,7 +189,7 @@ fn spoken_labelled(
 }
 
 /// Reads a line of the basic language or of a listing.
-#[tactic(auto, unfolding(agc_encode::specs::Body::spelled))]
+#[tactic(auto, unfolding(agc_vocabulary::specs::Body::spelled))]
 fn basic_labelled(
     names: &Names,
     counter: LocationCounter,

@@ -2,7 +2,7 @@
 ghost use Rattle.std.specs.Prelude.{◌≡◌, ◌≢◌, ◌<◌, Ok, Err, IfOk, IfErr, IfSome, OnOk, map};
 ghost use Rattle.agc_store.specs.Places.{fixed_words, fixed_fixed};
 ghost use Rattle.agc_asm.specs.FaultText.{later_fault};
-ghost use Rattle.agc_encode.specs.Name.{naming_of};
+ghost use Rattle.agc_vocabulary.specs.Name.{naming_of};
 ghost use Rattle.agc_encode.specs.LineKind.{IsKind, kind_of};
 ghost use Rattle.agc_asm.specs.Source.{
   IsPlaced,
@@ -37,7 +37,7 @@ ghost use Rattle.agc_asm.specs.Source.{
 };
 ghost use Rattle.agc_encode.specs.LineKind.{counter_after};
 ghost use Rattle.agc_encode.specs.LocationCounter.{room_at, IsAt, after_cells};
-ghost use Rattle.agc_encode.specs.Body.{plain_line, spelled, tokens};
+ghost use Rattle.agc_vocabulary.specs.Body.{plain_line, spelled, tokens};
 ghost use Rattle.agc_encode.specs.Interpretive.{due_behind};
 ghost use Rattle.agc_encode.specs.Encode.{cell_in, place_in};
 ghost use Rattle.agc_encode.specs.Operand.{location_in};
@@ -47,13 +47,14 @@ ghost use Rattle.agc_asm.specs.declared.fault.AssemblyFault.TheVariants.{Memory}
 
 use crate::fault::AssemblyFault;
 use agc_encode::{
-    At, Banks, LineKind, LocationCounter, Names, Operation, Role, Site, SourceFault, SourceLine,
-    banks_after, cell_in, counter_after, due_behind, encode_pair, encode_word, is_banked, kind_of,
-    leads_after, location_in, place_in, role_of, spoken_meaning, superbank,
+    At, Banks, LineKind, LocationCounter, Role, Site, SourceLine, banks_after, cell_in,
+    counter_after, due_behind, encode_pair, encode_word, is_banked, kind_of, leads_after,
+    location_in, place_in, role_of, spoken_meaning, superbank,
 };
 use agc_interpretive::{Fault, Pending};
 use agc_listing::{PlacedWord, RopeBuilder, read_line};
 use agc_store::place::{ERASABLE_BANK_SIZE, FIXED_FIXED};
+use agc_vocabulary::{Names, Operation, SourceFault};
 use agc_word::Narrow;
 use std::alloc::Global;
 
@@ -156,7 +157,7 @@ fn add_word(
 }
 
 /// Assembles a line: its words with their places, and where the next line goes.
-#[tactic(auto, unfolding(crate::specs::Source::assemble_line, agc_encode::specs::Body::spelled))]
+#[tactic(auto, unfolding(crate::specs::Source::assemble_line, agc_vocabulary::specs::Body::spelled))]
 pub(crate) fn assemble_line(
     names: &Names,
     state: State,
@@ -244,7 +245,7 @@ fn spoken_state(state: State, role: Role, words: &[u8], counter: LocationCounter
 }
 
 /// Assembles a line of the basic language.
-#[tactic(auto, unfolding(agc_encode::specs::Body::spelled))]
+#[tactic(auto, unfolding(agc_vocabulary::specs::Body::spelled))]
 fn basic_woven(names: &Names, state: State, operation: &Operation) -> Result<Step, SourceFault>
     requires { IsState state }
     ensures woven { result ≡ basic_woven (naming_of names.now) state (tokens operation.now.body.now)
@@ -296,7 +297,7 @@ fn leaves_due(kind: LineKind) -> bool
 }
 
 /// Assembles a line of a kind.
-#[tactic(auto, unfolding(agc_encode::specs::Body::spelled))]
+#[tactic(auto, unfolding(agc_vocabulary::specs::Body::spelled))]
 fn shape_woven(
     names: &Names,
     state: State,

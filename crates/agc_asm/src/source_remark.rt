@@ -1,7 +1,7 @@
 //! Explains which word of a source line is at fault: the name in its first column, its order, or its operand.
 use crate::channels::note_channels;
 use crate::fault_place::{has_letter, word_at_fault};
-use agc_encode::{Alias, Directive, Names, SourceFault, code_of, is_operation, parse_lines};
+use agc_encode::parse_lines;
 use agc_interpretive::Operation;
 use agc_listing::{
     cut_label, is_listed, is_name, next_parsed, offset_parsed, push_file_bytes, push_quoted,
@@ -9,6 +9,7 @@ use agc_listing::{
 };
 use agc_order::{Basic, Extracode};
 use agc_symbols::{Register, most_similar_name, push_unknown_name};
+use agc_vocabulary::{Alias, Directive, Names, SourceFault, code_of, is_operation};
 use agc_word::without_return;
 use std::alloc::{AllocError, Global};
 

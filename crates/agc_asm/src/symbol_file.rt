@@ -3,7 +3,7 @@ ghost use Rattle.std.specs.Prelude.{◌≡◌, ◌++◌, IfOk, Ok, OnOk};
 ghost use Rattle.agc_symbols.specs.Symbols.{names_in};
 ghost use Rattle.agc_symbols.specs.Writing.{names_text};
 ghost use Rattle.agc_asm.specs.NameLines.{label_named, labels_in, name_lines_in};
-ghost use Rattle.agc_encode.specs.Body.{line_label, plain_line};
+ghost use Rattle.agc_vocabulary.specs.Body.{line_label, plain_line};
 
 use crate::pass1::{define_label, first_names, note_label};
 use agc_encode::{LocationCounter, SourceLine, parse_lines};

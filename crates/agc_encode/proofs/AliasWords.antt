@@ -5,14 +5,14 @@ use Rattle.agc_word.specs.Number.{number_from_pattern}
 use Rattle.agc_word.specs.Numeral.{number_of}
 use Rattle.agc_order.specs.Row.{all_basics, all_extracodes}
 use Rattle.agc_listing.specs.Number.{count_named, offset_parsed}
-use Rattle.agc_encode.specs.Alias.{alias_word, is_extracode_alias}
-use Rattle.agc_encode.specs.Body.{alias_name, alias_named, alias_operand, alias_order, all_aliases, spelled}
+use Rattle.agc_vocabulary.specs.Alias.{alias_word, is_extracode_alias}
+use Rattle.agc_vocabulary.specs.Body.{alias_name, alias_named, alias_operand, alias_order, all_aliases, spelled}
 use Rattle.agc_encode.specs.Encode.{encode_word}
-use Rattle.agc_encode.specs.Mnemonic.{all_directives, basic_named, directive_name, directive_named, extracode_named}
-use Rattle.agc_encode.specs.Name.{Naming}
+use Rattle.agc_vocabulary.specs.Mnemonic.{all_directives, basic_named, directive_name, directive_named, extracode_named}
+use Rattle.agc_vocabulary.specs.Name.{Naming}
 use Rattle.agc_encode.specs.Row.{basic_word, extracode_word}
-use Rattle.agc_encode.specs.declared.alias.Alias.{Alias}
-use Rattle.agc_encode.specs.declared.alias.Alias.TheVariants as alias
+use Rattle.agc_vocabulary.specs.declared.alias.Alias.{Alias}
+use Rattle.agc_vocabulary.specs.declared.alias.Alias.TheVariants as alias
 use Rattle.agc_encode.specs.declared.encode.Banks.{Banks}
 
 pub alias_words : (a : Alias) (bits : ℕ) → alias_word a ≡ Some bits → (naming : Naming) (here : ℕ) (banks : Banks)

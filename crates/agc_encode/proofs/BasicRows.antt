@@ -10,8 +10,8 @@ use Rattle.agc_listing.specs.Order.{operand_in}
 use Rattle.agc_listing.specs.declared.order.Operand.{Operand}
 use Rattle.agc_listing.specs.declared.order.Operand.TheVariants as operand
 use Rattle.agc_encode.specs.Row.{basic_word, is_of_another, row_word}
-use Rattle.agc_encode.specs.declared.source_fault.SourceFault.{SourceFault}
-use Rattle.agc_encode.specs.declared.source_fault.SourceFault.TheVariants as fault
+use Rattle.agc_vocabulary.specs.declared.source_fault.SourceFault.{SourceFault}
+use Rattle.agc_vocabulary.specs.declared.source_fault.SourceFault.TheVariants as fault
 use Rattle.agc_encode.proofs.RowWords.{row_shows, words_of_row}
 
 -- TC with an address that is not that of another order

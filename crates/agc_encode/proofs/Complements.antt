@@ -3,13 +3,13 @@ use Rattle.std.specs.Prelude.{◌≡◌, ℕ, Bool, true, false, List, [], ◌�
 use Rattle.std.proofs.Common.{refl}
 use Rattle.agc_word.specs.Number.{Number}
 use Rattle.agc_listing.specs.Number.{begins_with_minus}
-use Rattle.agc_encode.specs.Body.{alias_named, spelled, spelled_by, without_minus, writes_nothing}
+use Rattle.agc_vocabulary.specs.Body.{alias_named, spelled, spelled_by, without_minus, writes_nothing}
 use Rattle.agc_encode.specs.Encode.{complemented, complemented_pair, complemented_word, offset_below_zero, lowered, encode_order, encode_pair, pair_spelled, plain_meaning, encode_word}
-use Rattle.agc_encode.specs.Mnemonic.{directive_named}
-use Rattle.agc_encode.specs.Name.{Naming}
+use Rattle.agc_vocabulary.specs.Mnemonic.{directive_named}
+use Rattle.agc_vocabulary.specs.Name.{Naming}
 use Rattle.agc_encode.specs.declared.encode.Banks.{Banks}
 use Rattle.agc_encode.specs.declared.encode.Pair.{Pair}
-use Rattle.agc_encode.specs.declared.source_fault.SourceFault.{SourceFault}
+use Rattle.agc_vocabulary.specs.declared.source_fault.SourceFault.{SourceFault}
 
 -- a name without a minus
 pub no_minus : (name : List ℕ) → begins_with_minus name ≡ false → without_minus name ≡ name

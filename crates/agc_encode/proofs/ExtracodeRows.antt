@@ -9,7 +9,7 @@ use Rattle.agc_order.specs.declared.order.Extracode.TheVariants as extra
 use Rattle.agc_listing.specs.Order.{operand_in}
 use Rattle.agc_listing.specs.declared.order.Operand.{Operand}
 use Rattle.agc_encode.specs.Row.{extracode_word}
-use Rattle.agc_encode.specs.declared.source_fault.SourceFault.{SourceFault}
+use Rattle.agc_vocabulary.specs.declared.source_fault.SourceFault.{SourceFault}
 use Rattle.agc_encode.proofs.RowWords.{row_shows, words_of_row}
 
 -- the word names the order

@@ -9,19 +9,19 @@ use Rattle.agc_order.specs.declared.order.Basic.{Basic}
 use Rattle.agc_order.specs.declared.order.Extracode.{Extracode}
 use Rattle.agc_listing.specs.declared.order.Operand.{Operand}
 use Rattle.agc_listing.specs.Location.{bank_register, complete_address}
-use Rattle.agc_encode.specs.Mnemonic.{basic_named, directive_named, extracode_named}
-use Rattle.agc_encode.specs.Name.{Naming}
+use Rattle.agc_vocabulary.specs.Mnemonic.{basic_named, directive_named, extracode_named}
+use Rattle.agc_vocabulary.specs.Name.{Naming}
 use Rattle.agc_listing.specs.Number.{begins_with_minus, octal_word, without_sign, word_of_pattern}
 use Rattle.agc_encode.specs.Row.{as_word, basic_word, extracode_word, meant, meant_operand}
 use Rattle.agc_listing.specs.Text.{only_of}
-use Rattle.agc_encode.specs.declared.source_fault.SourceFault.{SourceFault}
-use Rattle.agc_encode.specs.declared.mnemonic.Directive.{Directive}
-use Rattle.agc_encode.specs.declared.mnemonic.Directive.TheVariants as directive
+use Rattle.agc_vocabulary.specs.declared.source_fault.SourceFault.{SourceFault}
+use Rattle.agc_vocabulary.specs.declared.mnemonic.Directive.{Directive}
+use Rattle.agc_vocabulary.specs.declared.mnemonic.Directive.TheVariants as directive
 use Rattle.agc_listing.specs.declared.number.Signed.{Signed}
 use Rattle.agc_encode.specs.Encode.{channel_of, downlink_word, list_address, pair_for_fb, starred_bank_word, adres_word, any_address, bank_word, basic_with, bbcon_word, cadr_word, cell_in, complemented, complemented_pair, complemented_some, complemented_word, directive_meaning, ecadr_word, extracode_with, if_basic, if_extracode, offset_below_zero, lowered, major_mode, major_mode_in, operand_fault, number_word, octal_in, octal_pair_in, or_bad_number, order_by_offset, encode_order, pair_by, pair_by_word, encode_pair, pair_of_number, pair_of_octal, pair_of_place, pair_spelled, place_in, plain_meaning, unless_fault, verb_noun, verb_noun_in, word_by, encode_word}
-use Rattle.agc_encode.specs.Body.{alias_in, has_minus, spelled}
-use Rattle.agc_encode.specs.Numeral.{number_in}
-use Rattle.agc_encode.specs.declared.alias.Alias.{Alias}
+use Rattle.agc_vocabulary.specs.Body.{alias_in, has_minus, spelled}
+use Rattle.agc_vocabulary.specs.Numeral.{number_in}
+use Rattle.agc_vocabulary.specs.declared.alias.Alias.{Alias}
 use Rattle.agc_encode.specs.declared.encode.Banks.{Banks}
 use Rattle.agc_listing.specs.declared.location.Location.{Location}
 use Rattle.agc_listing.specs.List.{listed_address}

@@ -4,19 +4,19 @@ use Rattle.std.specs.Prelude.{◌≡◌, ℕ, ◌+◌, ◌<◌, ◌==◌, nat_le
 use Rattle.std.proofs.Common.{refl, arith}
 use Rattle.std.proofs.lemmas.Bool.Decides.{nat_tests}
 use Rattle.agc_word.specs.Numeral.{octal_number}
-use Rattle.agc_encode.specs.Mnemonic.{directive_named, is_order}
+use Rattle.agc_vocabulary.specs.Mnemonic.{directive_named, is_order}
 use Rattle.agc_listing.specs.Number.{offset_parsed}
 use Rattle.agc_listing.specs.Text.{only_of}
-use Rattle.agc_encode.specs.declared.source_fault.SourceFault.TheVariants as fault
+use Rattle.agc_vocabulary.specs.declared.source_fault.SourceFault.TheVariants as fault
 use Rattle.agc_listing.specs.declared.location.Location.{Location}
 use Rattle.agc_listing.specs.declared.location.Location.TheVariants as location
-use Rattle.agc_encode.specs.declared.mnemonic.Directive.{Directive}
-use Rattle.agc_encode.specs.declared.mnemonic.Directive.TheVariants as directive
+use Rattle.agc_vocabulary.specs.declared.mnemonic.Directive.{Directive}
+use Rattle.agc_vocabulary.specs.declared.mnemonic.Directive.TheVariants as directive
 use Rattle.agc_listing.specs.declared.number.Signed.{Signed}
 use Rattle.agc_encode.specs.LineKind.{as_name, bank_in, bank_within, block_in, block_within, cells_by, cells_in, cut_range, is_dash, is_minus, moves_to, range_of, checks, kind_by, kind_of, stands_apart, stands_beside, stands_for, stands_for_cell}
-use Rattle.agc_encode.specs.Name.{Naming}
+use Rattle.agc_vocabulary.specs.Name.{Naming}
 use Rattle.agc_encode.specs.Operand.{located, location_by, location_in, location_of, value_apart}
-use Rattle.agc_encode.specs.declared.source_fault.SourceFault.{SourceFault}
+use Rattle.agc_vocabulary.specs.declared.source_fault.SourceFault.{SourceFault}
 use Rattle.agc_encode.specs.declared.operand.Value.{Value}
 use Rattle.agc_encode.specs.declared.line_kind.LineKind.{LineKind}
 use Rattle.agc_encode.specs.declared.line_kind.LineKind.TheVariants as kind

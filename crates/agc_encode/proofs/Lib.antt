@@ -1,16 +1,11 @@
 pub mod AliasWords
 pub mod BasicRows
 pub mod Complements
-pub mod Cut
 pub mod ExtracodeRows
 pub mod Fits
 pub mod Held
-pub mod LabelWords
-pub mod Naming
-pub mod Nearest
 pub mod OwnWords
 pub mod Places
 pub mod RowWords
 pub mod Rows
-pub mod Tokens
 pub mod Within

@@ -11,7 +11,7 @@ use Rattle.agc_order.specs.declared.row.Takes.{Takes}
 use Rattle.agc_order.specs.declared.row.Takes.TheVariants as takes
 use Rattle.agc_listing.specs.declared.order.Operand.{Operand}
 use Rattle.agc_encode.specs.Row.{basic_word, extracode_word, is_of_another, row_word}
-use Rattle.agc_encode.specs.declared.source_fault.SourceFault.TheVariants as fault
+use Rattle.agc_vocabulary.specs.declared.source_fault.SourceFault.TheVariants as fault
 
 -- the word of a row
 row_fits : (first : ℕ) (wanted : Takes) (given : Operand) (bits : ℕ) → first ≤ 0o70000 → row_word first wanted given ≡ Ok bits → bits < 0o100000

@@ -9,12 +9,12 @@ use Rattle.agc_order.specs.declared.order.Basic.TheVariants as basic
 use Rattle.agc_order.specs.declared.order.Extracode.{Extracode}
 use Rattle.agc_order.specs.declared.order.Extracode.TheVariants as extra
 use Rattle.agc_listing.specs.Order.{operand_in}
-use Rattle.agc_encode.specs.Mnemonic.{all_directives, basic_named, directive_name, directive_named, extracode_named}
+use Rattle.agc_vocabulary.specs.Mnemonic.{all_directives, basic_named, directive_name, directive_named, extracode_named}
 use Rattle.agc_encode.specs.Row.{basic_word, extracode_word}
 use Rattle.agc_listing.specs.Number.{begins_with_minus, offset_parsed}
 use Rattle.agc_listing.specs.Text.{is_place_text}
-use Rattle.agc_encode.specs.Body.{alias_name, alias_named, all_aliases, is_hash_byte, without_minus}
-use Rattle.agc_encode.proofs.Cut.{IsWord}
+use Rattle.agc_vocabulary.specs.Body.{alias_name, alias_named, all_aliases, is_hash_byte, without_minus}
+use Rattle.agc_vocabulary.proofs.Cut.{IsWord}
 
 -- a word that is neither a place nor a directive
 pub record IsMnemonic (name : List ℕ) : Type 0 where

@@ -9,7 +9,7 @@ use Rattle.agc_encode.specs.declared.location_counter.At.{At}
 use Rattle.agc_encode.specs.declared.location_counter.At.TheVariants as at
 use Rattle.agc_encode.specs.declared.location_counter.LocationCounter.{LocationCounter}
 use Rattle.agc_listing.specs.Location.{IsWithin}
-use Rattle.agc_encode.specs.declared.source_fault.SourceFault.TheVariants as fault
+use Rattle.agc_vocabulary.specs.declared.source_fault.SourceFault.TheVariants as fault
 
 in_rope : (bank left count : ℕ) (two : Bool) → (bank == 2) ≡ two → nat_le (left + count) (if two then 0o4000 else 0o2000) ≡ true → bank < 36 → 0 < count → 0o2000 * bank + left < 0o110000
 in_rope bank left count true is e h some = grind (arith, nat_tests)

@@ -12,22 +12,22 @@ use Rattle.agc_listing.specs.declared.order.Operand.{Operand}
 use Rattle.agc_listing.specs.Location.{bank_register, cell_address, complete_address}
 use Rattle.agc_listing.specs.declared.location.Location.{Location}
 use Rattle.agc_listing.specs.declared.location.Location.TheVariants as location
-use Rattle.agc_encode.specs.Body.{alias_in, has_minus, spelled}
-use Rattle.agc_encode.specs.Mnemonic.{basic_named, directive_named, extracode_named}
-use Rattle.agc_encode.specs.Name.{Naming}
+use Rattle.agc_vocabulary.specs.Body.{alias_in, has_minus, spelled}
+use Rattle.agc_vocabulary.specs.Mnemonic.{basic_named, directive_named, extracode_named}
+use Rattle.agc_vocabulary.specs.Name.{Naming}
 use Rattle.agc_listing.specs.Number.{begins_with_minus, octal_word, offset_parsed, without_sign}
-use Rattle.agc_encode.specs.Numeral.{number_in}
+use Rattle.agc_vocabulary.specs.Numeral.{number_in}
 use Rattle.agc_encode.specs.Operand.{channel_at, location_for, operand_for, value_of}
 use Rattle.agc_encode.specs.Row.{as_word, basic_word, extracode_word, meant, meant_operand}
 use Rattle.agc_listing.specs.Text.{only_of}
-use Rattle.agc_encode.specs.declared.alias.Alias.{Alias}
-use Rattle.agc_encode.specs.declared.alias.Alias.TheVariants as alias
+use Rattle.agc_vocabulary.specs.declared.alias.Alias.{Alias}
+use Rattle.agc_vocabulary.specs.declared.alias.Alias.TheVariants as alias
 use Rattle.agc_encode.specs.declared.encode.Banks.{Banks}
-use Rattle.agc_encode.specs.declared.source_fault.SourceFault.{SourceFault}
-use Rattle.agc_encode.specs.declared.source_fault.SourceFault.TheVariants as fault
+use Rattle.agc_vocabulary.specs.declared.source_fault.SourceFault.{SourceFault}
+use Rattle.agc_vocabulary.specs.declared.source_fault.SourceFault.TheVariants as fault
 use Rattle.agc_encode.specs.declared.encode.Pair.{Pair}
-use Rattle.agc_encode.specs.declared.mnemonic.Directive.{Directive}
-use Rattle.agc_encode.specs.declared.mnemonic.Directive.TheVariants as directive
+use Rattle.agc_vocabulary.specs.declared.mnemonic.Directive.{Directive}
+use Rattle.agc_vocabulary.specs.declared.mnemonic.Directive.TheVariants as directive
 use Rattle.agc_listing.specs.declared.number.Signed.{Signed}
 use Rattle.agc_encode.specs.declared.operand.Value.{Value}
 use Rattle.agc_encode.specs.declared.operand.Value.TheVariants as value

@@ -21,13 +21,13 @@ use Rattle.agc_listing.specs.Text.{after_first, are_listed, body_of, label_of, p
 use Rattle.agc_listing.specs.declared.location.Location.{Location}
 use Rattle.agc_listing.specs.declared.location.Location.TheVariants as location
 use Rattle.agc_listing.specs.declared.number.Signed.{Signed}
-use Rattle.agc_encode.specs.Body.{body_in, is_include, spelled, uncommented}
-use Rattle.agc_encode.specs.Mnemonic.{directive_named, is_order}
-use Rattle.agc_encode.specs.Name.{Naming}
+use Rattle.agc_vocabulary.specs.Body.{body_in, is_include, spelled, uncommented}
+use Rattle.agc_vocabulary.specs.Mnemonic.{directive_named, is_order}
+use Rattle.agc_vocabulary.specs.Name.{Naming}
 use Rattle.agc_encode.specs.Operand.{located, value_in, value_moved}
-use Rattle.agc_encode.specs.declared.source_fault.SourceFault.{SourceFault}
-use Rattle.agc_encode.specs.declared.source_fault.SourceFault.TheVariants as fault
-use Rattle.agc_encode.specs.declared.mnemonic.Directive.{Directive}
+use Rattle.agc_vocabulary.specs.declared.source_fault.SourceFault.{SourceFault}
+use Rattle.agc_vocabulary.specs.declared.source_fault.SourceFault.TheVariants as fault
+use Rattle.agc_vocabulary.specs.declared.mnemonic.Directive.{Directive}
 use Rattle.agc_encode.specs.declared.operand.Value.{Value}
 use Rattle.agc_encode.specs.declared.operand.Value.TheVariants as value
 use Rattle.agc_encode.specs.declared.role.Role.{Role}

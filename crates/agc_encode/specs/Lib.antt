@@ -1,10 +1,4 @@
-pub mod Alias
-pub mod Body
-pub mod Numeral
 pub mod Row
-pub mod Name
-pub mod Mnemonic
-pub mod FaultText
 pub mod LocationCounter
 pub mod Operand
 pub mod LineKind

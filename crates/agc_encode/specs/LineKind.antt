@@ -5,22 +5,22 @@ use Rattle.std.specs.Prelude.{if◌then◌else◌, Bool, false}
 use Rattle.agc_word.specs.Numeral.{octal_number}
 use Rattle.agc_store.specs.Places.{erasable_cells}
 use Rattle.agc_encode.specs.LocationCounter.{after_cells, after_range, after_words, in_bank, moved_to, resumed, room_at}
-use Rattle.agc_encode.specs.Name.{Naming}
+use Rattle.agc_vocabulary.specs.Name.{Naming}
 use Rattle.agc_encode.specs.Operand.{location_in}
 use Rattle.agc_listing.specs.Location.{IsWithin}
-use Rattle.agc_encode.specs.Mnemonic.{directive_named, is_order}
+use Rattle.agc_vocabulary.specs.Mnemonic.{directive_named, is_order}
 use Rattle.agc_encode.specs.UnknownOperation.{unknown_operation}
 use Rattle.agc_listing.specs.Number.{offset_parsed}
 use Rattle.agc_listing.specs.Text.{only_of}
 use Rattle.agc_encode.specs.declared.location_counter.At.{At}
 use Rattle.agc_encode.specs.declared.location_counter.At.TheVariants as at
 use Rattle.agc_encode.specs.declared.location_counter.LocationCounter.{LocationCounter}
-use Rattle.agc_encode.specs.declared.source_fault.SourceFault.{SourceFault}
-use Rattle.agc_encode.specs.declared.source_fault.SourceFault.TheVariants as fault
+use Rattle.agc_vocabulary.specs.declared.source_fault.SourceFault.{SourceFault}
+use Rattle.agc_vocabulary.specs.declared.source_fault.SourceFault.TheVariants as fault
 use Rattle.agc_listing.specs.declared.location.Location.{Location}
 use Rattle.agc_listing.specs.declared.location.Location.TheVariants as location
-use Rattle.agc_encode.specs.declared.mnemonic.Directive.{Directive}
-use Rattle.agc_encode.specs.declared.mnemonic.Directive.TheVariants as directive
+use Rattle.agc_vocabulary.specs.declared.mnemonic.Directive.{Directive}
+use Rattle.agc_vocabulary.specs.declared.mnemonic.Directive.TheVariants as directive
 use Rattle.agc_listing.specs.declared.number.Signed.{Signed}
 use Rattle.agc_encode.specs.declared.line_kind.LineKind.{LineKind}
 use Rattle.agc_encode.specs.declared.line_kind.LineKind.TheVariants as kind

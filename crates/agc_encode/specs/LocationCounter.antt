@@ -7,8 +7,8 @@ use Rattle.agc_store.specs.Places.{erasable_cells, fixed_bank_size, fixed_banks}
 use Rattle.agc_encode.specs.declared.location_counter.At.{At}
 use Rattle.agc_encode.specs.declared.location_counter.At.TheVariants as at
 use Rattle.agc_encode.specs.declared.location_counter.LocationCounter.{LocationCounter}
-use Rattle.agc_encode.specs.declared.source_fault.SourceFault.{SourceFault}
-use Rattle.agc_encode.specs.declared.source_fault.SourceFault.TheVariants as fault
+use Rattle.agc_vocabulary.specs.declared.source_fault.SourceFault.{SourceFault}
+use Rattle.agc_vocabulary.specs.declared.source_fault.SourceFault.TheVariants as fault
 use Rattle.agc_listing.specs.declared.location.Location.{Location}
 use Rattle.agc_listing.specs.declared.location.Location.TheVariants as location
 

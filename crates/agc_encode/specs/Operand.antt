@@ -10,11 +10,11 @@ use Rattle.agc_listing.specs.List.{listed_address}
 use Rattle.agc_listing.specs.declared.order.Operand.{Operand}
 use Rattle.agc_listing.specs.declared.order.Operand.TheVariants as operand
 use Rattle.agc_listing.specs.Location.{cell_address, is_addressable, is_fixed_fixed, location_named, location_of_pseudo_address}
-use Rattle.agc_encode.specs.Name.{Naming, known}
+use Rattle.agc_vocabulary.specs.Name.{Naming, known}
 use Rattle.agc_listing.specs.Number.{count_named, offset_parsed}
 use Rattle.agc_listing.specs.Text.{is_name}
-use Rattle.agc_encode.specs.declared.source_fault.SourceFault.{SourceFault}
-use Rattle.agc_encode.specs.declared.source_fault.SourceFault.TheVariants as fault
+use Rattle.agc_vocabulary.specs.declared.source_fault.SourceFault.{SourceFault}
+use Rattle.agc_vocabulary.specs.declared.source_fault.SourceFault.TheVariants as fault
 use Rattle.agc_listing.specs.declared.location.Location.{Location}
 use Rattle.agc_listing.specs.declared.location.Location.TheVariants as location
 use Rattle.agc_listing.specs.declared.number.Signed.{Signed}

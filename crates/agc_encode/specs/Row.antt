@@ -11,8 +11,8 @@ use Rattle.agc_order.specs.declared.row.Takes.TheVariants as takes
 use Rattle.agc_store.specs.Places.{fixed_window}
 use Rattle.agc_listing.specs.declared.order.Operand.{Operand}
 use Rattle.agc_listing.specs.declared.order.Operand.TheVariants as operand
-use Rattle.agc_encode.specs.declared.source_fault.SourceFault.{SourceFault}
-use Rattle.agc_encode.specs.declared.source_fault.SourceFault.TheVariants as fault
+use Rattle.agc_vocabulary.specs.declared.source_fault.SourceFault.{SourceFault}
+use Rattle.agc_vocabulary.specs.declared.source_fault.SourceFault.TheVariants as fault
 
 -- an operand as a word holds it: for a pair, the address after the one in the source
 abbrev pub field_of : Takes → Operand → Option ℕ

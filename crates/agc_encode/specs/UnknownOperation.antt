@@ -5,8 +5,8 @@ use Rattle.std.specs.Str.{bytes_eq}
 use Rattle.agc_word.specs.Text.{words_of}
 use Rattle.agc_interpretive.specs.Operation.{ends_with_star, operation_named}
 use Rattle.agc_interpretive.specs.declared.fault.Fault.TheVariants as why
-use Rattle.agc_encode.specs.declared.source_fault.SourceFault.{SourceFault}
-use Rattle.agc_encode.specs.declared.source_fault.SourceFault.TheVariants as fault
+use Rattle.agc_vocabulary.specs.declared.source_fault.SourceFault.{SourceFault}
+use Rattle.agc_vocabulary.specs.declared.source_fault.SourceFault.TheVariants as fault
 
 -- directives of other kinds of words
 unfoldable pub unsupported_names : List ℕ

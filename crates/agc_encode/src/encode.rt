@@ -2,8 +2,8 @@
 ghost use Rattle.std.specs.Prelude.{◌≡◌, ◌∷◌, [], codes, ◌+◌, ◌-◌, ◌<◌, ◌≤◌, ◌%◌, ◌^◌, ◌&&◌, IfOk, IfSome};
 ghost use Rattle.agc_word.specs.Number.{number_from_pattern, pattern_of};
 ghost use Rattle.agc_store.specs.Places.{erasable_cells, fixed_words};
-ghost use Rattle.agc_encode.specs.Body.{tokens};
-ghost use Rattle.agc_encode.specs.Numeral.{number_in};
+ghost use Rattle.agc_vocabulary.specs.Body.{tokens};
+ghost use Rattle.agc_vocabulary.specs.Numeral.{number_in};
 ghost use Rattle.agc_encode.specs.Encode.{
   any_address,
   bank_word,
@@ -34,28 +34,25 @@ ghost use Rattle.agc_encode.specs.Encode.{
   encode_word,
   writes_order,
 };
-ghost use Rattle.agc_encode.specs.Name.{naming_of};
+ghost use Rattle.agc_vocabulary.specs.Name.{naming_of};
 ghost use Rattle.agc_encode.specs.Operand.{location_for, location_in, value_of};
 ghost use Rattle.agc_listing.specs.Location.{IsWithin};
 ghost use Rattle.agc_listing.specs.Number.{without_sign};
 ghost use Rattle.agc_listing.specs.Order.{next_is_extracode};
 ghost use Rattle.agc_listing.specs.Text.{only_of};
 
-use crate::alias::Alias;
-use crate::body::{next_token, only_token};
-use crate::mnemonic::{Directive, basic_named, extracode_named};
-use crate::names::Names;
-use crate::numeral::{number_in, without_sign};
 use crate::operand::{Value, channel_at, location_for, operand_for, value_of};
-use crate::operation::Operation;
 use crate::row::{basic_word, extracode_word, meant, meant_operand};
-use crate::source_fault::SourceFault;
 use agc_listing::{
     Location, cell_address, complete_address, listed_address, next_is_extracode, octal_word,
     offset_parsed,
 };
 use agc_order::{Basic, Extracode};
 use agc_store::place::bank_of;
+use agc_vocabulary::{
+    Alias, Directive, Names, Operation, SourceFault, basic_named, extracode_named, next_token,
+    number_in, only_token, without_sign,
+};
 use agc_word::{Narrow, read_decimal, read_octal};
 
 /// Two words, the upper one first.

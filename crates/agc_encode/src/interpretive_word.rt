@@ -5,7 +5,7 @@ ghost use Rattle.agc_listing.specs.Location.{IsWithin};
 ghost use Rattle.agc_listing.specs.Number.{offset_parsed};
 ghost use Rattle.agc_listing.specs.Text.{after_first};
 ghost use Rattle.agc_store.specs.Places.{fixed_words};
-ghost use Rattle.agc_encode.specs.Body.{tokens};
+ghost use Rattle.agc_vocabulary.specs.Body.{tokens};
 ghost use Rattle.agc_encode.specs.Interpretive.{
   alone,
   at_location,
@@ -19,16 +19,14 @@ ghost use Rattle.agc_encode.specs.Interpretive.{
   spoken_meaning,
   stated,
 };
-ghost use Rattle.agc_encode.specs.Name.{naming_of};
+ghost use Rattle.agc_vocabulary.specs.Name.{naming_of};
 ghost use Rattle.agc_encode.specs.Operand.{value_in};
 
-use crate::body::next_token;
-use crate::names::Names;
 use crate::operand::{Value as Read, located, location_of, value_in, value_moved};
 use crate::role::{Role, is_store};
-use crate::source_fault::SourceFault;
 use agc_interpretive::{Count, Due, Fault, Index, Operation, Pending, Place, Value, cut_index};
 use agc_listing::{Location, Signed, offset_parsed};
+use agc_vocabulary::{Names, SourceFault, next_token};
 
 /// Encodes an interpretive line with these words, in code at a place.
 #[tactic(auto, unfolding(crate::specs::Interpretive::spoken_meaning))]

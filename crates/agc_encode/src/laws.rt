@@ -1,18 +1,16 @@
 //! Laws of the words of a line, each the contract of a function with an empty body. `encode_word` and `encode_pair` are
 //! proved equal to the definitions that these laws are about.
-ghost use Rattle.std.specs.Prelude.{◌≡◌, ℕ, ◌*◌, ◌^◌, ◌<◌, Bool, true, false, List, [], ◌∷◌, None, Some, Ok, codes};
+ghost use Rattle.std.specs.Prelude.{◌≡◌, ℕ, Bool, true, false, List, [], ◌∷◌, None, Some, Ok, codes};
 ghost use Rattle.agc_word.specs.Number.{Number, number_from_pattern};
 ghost use Rattle.agc_listing.specs.Number.{begins_with_minus};
-ghost use Rattle.agc_encode.specs.Alias.{alias_word, is_extracode_alias};
-ghost use Rattle.agc_encode.specs.Body.{alias_name, alias_named, writes_nothing};
-ghost use Rattle.agc_encode.specs.Mnemonic.{directive_named};
-ghost use Rattle.agc_encode.specs.Name.{Naming};
+ghost use Rattle.agc_vocabulary.specs.Alias.{alias_word, is_extracode_alias};
+ghost use Rattle.agc_vocabulary.specs.Body.{alias_name, alias_named, writes_nothing};
+ghost use Rattle.agc_vocabulary.specs.Mnemonic.{directive_named};
+ghost use Rattle.agc_vocabulary.specs.Name.{Naming};
 ghost use Rattle.agc_encode.specs.Encode.{complemented, offset_below_zero, lowered, encode_order, encode_pair, encode_word};
-ghost use Rattle.agc_encode.specs.Numeral.{IsNearest, nearest, raised};
-ghost use Rattle.agc_encode.specs.declared.alias.Alias.{Alias};
+ghost use Rattle.agc_vocabulary.specs.declared.alias.Alias.{Alias};
 ghost use Rattle.agc_encode.specs.declared.encode.Banks.{Banks};
 ghost use Rattle.agc_encode.specs.declared.encode.Pair.{Pair};
-ghost use Rattle.agc_encode.specs.declared.numeral.Quotient.{Quotient};
 
 /// Another name of an order that has its operand is the word of its table: the address of a register, or the next place
 /// for NOOP.
@@ -45,13 +43,4 @@ pub fn an_offset_is_added_to_the_word()
         → offset_below_zero rest ≡ Some less
         → encode_word naming here leads banks (name ∷ rest)
         ≡ lowered less (encode_order naming here leads name (codes "0" ∷ [])) }
-{}
-
-/// A fraction's word or pair is the nearest one: no integer below the limit is nearer to the quotient of the number in
-/// units of its last bit. The quotient's parts are products: the digits times powers of ten and two, over such powers.
-pub fn a_fraction_is_the_nearest_number()
-    ensures nearest { (limit : ℕ) (r : Quotient) (n : ℕ) → 0 < r.under → nearest limit r ≡ Some n
-        → IsNearest limit r n }
-    ensures product { (n base times more : ℕ) → raised n base times ≡ Some more
-        → more ≡ n * base ^ times }
 {}

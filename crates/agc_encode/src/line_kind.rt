@@ -1,6 +1,6 @@
 //! The kind of a line: what it occupies, and where the next one goes.
 ghost use Rattle.std.specs.Prelude.{◌≡◌, ◌<◌, ◌≤◌, length, position, Ok, IfOk, IfSome};
-ghost use Rattle.agc_encode.specs.Body.{spelled, tokens};
+ghost use Rattle.agc_vocabulary.specs.Body.{spelled, tokens};
 ghost use Rattle.agc_encode.specs.LocationCounter.{IsAt};
 ghost use Rattle.agc_encode.specs.LineKind.{
   IsKind,
@@ -19,22 +19,18 @@ ghost use Rattle.agc_encode.specs.LineKind.{
   stands_for,
   stands_for_cell,
 };
-ghost use Rattle.agc_encode.specs.Name.{naming_of};
+ghost use Rattle.agc_vocabulary.specs.Name.{naming_of};
 ghost use Rattle.agc_listing.specs.Location.{IsWithin};
 ghost use Rattle.agc_listing.specs.Number.{offset_parsed};
 ghost use Rattle.agc_listing.specs.Text.{only_of};
 ghost use Rattle.agc_word.specs.Numeral.{octal_number};
 
-use crate::body::{next_token, only_token};
 use crate::location_counter::LocationCounter;
-use crate::mnemonic::{Directive, is_order};
-use crate::names::Names;
 use crate::operand::location_in;
-use crate::operation::Operation;
-use crate::source_fault::SourceFault;
 use crate::unknown_operation::unknown_operation;
 use agc_listing::{Location, Signed, offset_parsed};
 use agc_store::place::ERASABLE_CELLS;
+use agc_vocabulary::{Directive, Names, Operation, SourceFault, is_order, next_token, only_token};
 use agc_word::read_octal;
 
 /// What a line occupies.

@@ -23,13 +23,13 @@ ghost use Rattle.agc_encode.specs.LocationCounter.{
 ghost use Rattle.agc_listing.specs.Location.{IsWithin};
 ghost use Rattle.agc_encode.specs.declared.location_counter.At.TheVariants as at;
 
-use crate::source_fault::SourceFault;
 use agc_interpretive::Pending;
 use agc_listing::Location;
 use agc_store::place::{
     ERASABLE_BANK_SIZE, ERASABLE_CELLS, ERASABLE_WINDOW, FIXED_BANK_SIZE, bank_of, offset_of,
     place_of,
 };
+use agc_vocabulary::SourceFault;
 
 /// Which memory the lines go into.
 #[derive(Clone, Copy)]

@@ -1,7 +1,7 @@
 //! Parses operands: an address, a place or a cell, and an offset from it.
 ghost use Rattle.std.specs.Prelude.{◌≡◌, true, ◌+◌, ◌<◌, ◌^◌, length, Ok, IfOk, IfSome};
-ghost use Rattle.agc_encode.specs.Body.{tokens};
-ghost use Rattle.agc_encode.specs.Name.{naming_of};
+ghost use Rattle.agc_vocabulary.specs.Body.{tokens};
+ghost use Rattle.agc_vocabulary.specs.Name.{naming_of};
 ghost use Rattle.agc_encode.specs.Operand.{
   address_at,
   address_of,
@@ -35,15 +35,13 @@ ghost use Rattle.agc_encode.specs.LocationCounter.{IsSmall};
 ghost use Rattle.agc_listing.specs.Location.{IsWithin};
 ghost use Rattle.agc_listing.specs.Number.{offset_parsed};
 
-use crate::body::next_token;
-use crate::names::Names;
-use crate::source_fault::SourceFault;
 use agc_listing::{
     Location, Operand, Signed, cell_address, count_named, is_addressable, is_name, listed_address,
     location_named, location_of_pseudo_address, offset_parsed,
 };
 use agc_order::Takes;
 use agc_store::place::{ERASABLE_CELLS, FIXED_FIXED, FIXED_WORDS};
+use agc_vocabulary::{Names, SourceFault, next_token};
 use agc_word::read_octal;
 
 /// The value of an operand.

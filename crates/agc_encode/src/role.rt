@@ -4,7 +4,7 @@ ghost use Rattle.agc_interpretive.specs.Operation.{operation_named};
 ghost use Rattle.agc_interpretive.specs.Jump.{is_store};
 ghost use Rattle.agc_listing.specs.Number.{offset_parsed};
 ghost use Rattle.agc_listing.specs.Text.{after_first, body_of, label_of, parsed_by};
-ghost use Rattle.agc_encode.specs.Body.{plain_line, spelled, tokens, uncommented};
+ghost use Rattle.agc_vocabulary.specs.Body.{plain_line, spelled, tokens, uncommented};
 ghost use Rattle.agc_encode.specs.Interpretive.{
   column_from,
   column_of,
@@ -18,12 +18,10 @@ ghost use Rattle.agc_encode.specs.Interpretive.{
   unadorned,
 };
 
-use crate::body::{is_include, next_token};
-use crate::mnemonic::is_order;
-use crate::operation::Operation as BasicOperation;
 use crate::source_line::SourceLine;
 use agc_interpretive::{Form, Operation, Pending};
 use agc_listing::{cut_label, offset_parsed};
+use agc_vocabulary::{Operation as BasicOperation, is_include, is_order, next_token};
 
 /// The column, counted from 0 with tabs of eight, from which on a word is an operand.
 const OPERAND_COLUMN: usize = 24;
@@ -65,7 +63,7 @@ pub fn role_of(due: &Pending, line: &SourceLine) -> Role
 }
 
 /// Returns whether a line's operation is an order or a directive.
-#[tactic(auto, unfolding(crate::specs::Body::spelled))]
+#[tactic(auto, unfolding(agc_vocabulary::specs::Body::spelled))]
 fn is_basic(operation: &Option<BasicOperation>) -> bool
     ensures { result ≡ is_basic (spelled (unwrap_or (option_map (λ op. tokens op.body.now) operation.now) [])) }
 {
@@ -104,7 +102,7 @@ fn right_named(words: &[u8]) -> Option<Operation>
 }
 
 /// Returns the words of a line behind its name. A sign and digits mean nothing before other words.
-#[tactic(auto, unfolding(crate::specs::Interpretive::spoken_words, crate::specs::Body::tokens))]
+#[tactic(auto, unfolding(crate::specs::Interpretive::spoken_words, agc_vocabulary::specs::Body::tokens))]
 pub(crate) fn spoken_words(line: &[u8]) -> &[u8]
     ensures { tokens result.now ≡ spoken_words line.now }
 {

@@ -16,10 +16,10 @@ ghost use Rattle.agc_encode.specs.Row.{
   row_word,
 };
 
-use crate::source_fault::SourceFault;
 use agc_listing::Operand;
 use agc_order::{Basic, Extracode, Row, Takes};
 use agc_store::place::FIXED_WINDOW;
+use agc_vocabulary::SourceFault;
 use agc_word::Narrow;
 
 /// Encodes a basic order with an operand as `list` shows it; for DAS and DXCH that is the address of the upper word.

@@ -2,13 +2,12 @@
 ghost use Rattle.std.specs.Prelude.{◌≡◌, [], map, option_map, unwrap_or, IfOk};
 ghost use Rattle.agc_word.specs.Text.{lines_of};
 ghost use Rattle.agc_listing.specs.Text.{are_listed, parsed_by};
-ghost use Rattle.agc_encode.specs.Body.{line_label, body_in, plain_line, tokens};
+ghost use Rattle.agc_vocabulary.specs.Body.{line_label, body_in, plain_line, tokens};
 ghost use Rattle.agc_encode.specs.Interpretive.{column_of, spoken_words};
 
-use crate::body::{cut_line, plain_line};
-use crate::operation::{Operation, operation_in};
 use crate::role::{column_of, spoken_words};
 use agc_listing::is_listed;
+use agc_vocabulary::{Operation, cut_line, operation_in, plain_line};
 use agc_word::next_line;
 use std::alloc::{AllocError, Global};
 

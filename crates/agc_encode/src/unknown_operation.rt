@@ -2,8 +2,8 @@
 ghost use Rattle.agc_encode.specs.UnknownOperation.{is_among, is_badly_starred, unknown_operation};
 ghost use Rattle.std.specs.Prelude.{◌≡◌};
 
-use crate::source_fault::SourceFault;
 use agc_interpretive::{Fault, Operation};
+use agc_vocabulary::SourceFault;
 use agc_word::next_word;
 
 /// Directives that this assembler does not support.

@@ -13,7 +13,7 @@ use Rattle.agc_script.specs.declared.fault.FaultKind.TheVariants as kind
 use Rattle.agc_panel.specs.declared.watch_spec.WatchFault.{WatchFault}
 use Rattle.agc_panel.specs.declared.watch_spec.WatchFault.TheVariants as watch
 use Rattle.agc_asm.specs.FaultText.{overlap_text}
-use Rattle.agc_encode.specs.FaultText.{fault_text}
+use Rattle.agc_vocabulary.specs.FaultText.{fault_text}
 use Rattle.agc_asm.specs.declared.fault.AssemblyFault.{AssemblyFault}
 use Rattle.agc_asm.specs.declared.fault.AssemblyFault.TheVariants as source
 use Rattle.agc_run_commands.specs.declared.fault.AnalysisFault.{AnalysisFault}

@@ -1,6 +1,6 @@
 use Rattle.std.specs.Prelude.{◌≡◌, ◌+◌, ◌≤◌, length, map}
 use Rattle.agc_asm.specs.Channels.{channels_from}
-use Rattle.agc_encode.specs.Name.{naming_of}
+use Rattle.agc_vocabulary.specs.Name.{naming_of}
 use Rattle.agc_asm.proofs.channels.note_channels.Given as goal
 
 abbrev pub invariant-loop-rest : goal.invariant-loop-rest

@@ -1,6 +1,6 @@
 use Rattle.std.specs.Prelude.{◌≡◌, ◌+◌, ◌≤◌, length, map}
 use Rattle.agc_encode.specs.LocationCounter.{IsAt, first_counter}
-use Rattle.agc_encode.specs.Name.{naming_of}
+use Rattle.agc_vocabulary.specs.Name.{naming_of}
 use Rattle.agc_asm.specs.Source.{first_names, names_from}
 use Rattle.agc_asm.proofs.pass1.read_names.Given as goal
 

@@ -1,5 +1,5 @@
 use Rattle.std.specs.Prelude.{◌≡◌, ◌+◌, [], length, map}
-use Rattle.agc_encode.specs.Name.{naming_of}
+use Rattle.agc_vocabulary.specs.Name.{naming_of}
 use Rattle.agc_asm.specs.Source.{IsState, due_from, first_state, words_from}
 use Rattle.agc_asm.proofs.pass2.read_words.Given as goal
 

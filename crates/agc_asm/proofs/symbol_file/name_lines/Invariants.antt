@@ -1,6 +1,6 @@
 use Rattle.std.specs.Prelude.{length, map}
 use Rattle.agc_encode.specs.LocationCounter.{IsAt}
-use Rattle.agc_encode.specs.Name.{naming_of}
+use Rattle.agc_vocabulary.specs.Name.{naming_of}
 use Rattle.agc_asm.proofs.ReportedNames.{IsOutcome}
 use Rattle.agc_asm.proofs.symbol_file.name_lines.Given as goal
 

@@ -1,4 +1,0 @@
-use Rattle.agc_encode.proofs.numeral.+raised.Given as goal
-
-abbrev pub decreases-raised : goal.decreases-raised
-decreases-raised l = l.times
