@@ -24,7 +24,8 @@ TOP = Path(judge.TOP)
 PREBUILT = Path("prebuilt", "x86_64-linux")
 # The crates with texts for people, and the judges that see them, if no stored output has the text.
 CRATES = {
-    "agc-study": "agc_text agc_run_commands agc_rope_commands agc_analysis agc_check agc_mend agc_study_args agc_study_cli agc_asm agc_encode agc_vocabulary agc_symbols agc_cli agc_load",
+    "agc-study": "agc_text agc_run_commands agc_rope_commands agc_analysis agc_check agc_mend agc_study_args agc_study_cli "
+                 "agc_listing_check agc_asm agc_encode agc_vocabulary agc_symbols agc_cli agc_load",
     "agc-console": "agc_command agc_repl agc_console",
     "agc-dsky": "agc_tui agc_dsky agc_panel",
     "agc": "agc_load agc_cli",

@@ -6,12 +6,11 @@ ghost use Rattle.agc_run_commands.specs.Ended.{EndsWith};
 ghost use Rattle.agc_rope_commands.specs.Listed.{IsWeaveRefused, IsWeaveWritten};
 ghost use Rattle.agc_run_commands.specs.Fault.{IsReported};
 
-use agc_asm::{
-    AssemblyFault, Misnamed, assemble, first_misnamed, line_remarks, source_symbols, word_lines,
-};
+use agc_asm::{AssemblyFault, assemble, source_symbols, word_lines};
 use agc_cli::exit_usage;
 use agc_include::{Expanded, has_include};
 use agc_io::{OK, ReadError, TEXT_BYTES, WRITE_FAILED, read_limited, status_of, write_in_full};
+use agc_listing_check::{Misnamed, first_misnamed, line_remarks};
 use agc_rope_commands::{
     Woven, expanded_source, in_files, misnamed_line, report_include, weave_text,
     write_expanded_faults, write_other_faults,

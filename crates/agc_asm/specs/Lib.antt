@@ -2,9 +2,7 @@ pub mod FaultText
 pub mod Source
 pub mod NameLines
 pub mod Channels
-pub mod MnemonicCheck
 pub mod Laws
 pub mod OrderLines
 pub mod FirstFault
 pub mod FaultPlace
-pub mod ListingReport

@@ -13,7 +13,7 @@ use std::alloc::AllocError;
 
 /// Adds to these names those that the orders of a source take as channels.
 #[tactic(auto, unfolding(crate::specs::Channels::channels_from))]
-pub(crate) fn note_channels<'a>(
+pub fn note_channels<'a>(
     known: Names<'a>,
     lines: &[SourceLine<'a>],
 ) -> Result<Names<'a>, AllocError>

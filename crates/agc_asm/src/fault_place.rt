@@ -109,7 +109,7 @@ fn has_letter_first(line: &[u8]) -> bool {
 }
 
 /// Returns whether a word is a place or a number, except for letters O.
-pub(crate) fn has_letter(word: &[u8]) -> bool {
+pub fn has_letter(word: &[u8]) -> bool {
     let is_like_digit = |b: &u8| matches!(*b, b'0'..=b'9' | b',' | b'O' | b'o');
     word.iter().all(is_like_digit)
         && word.iter().any(|b| b.is_ascii_digit())

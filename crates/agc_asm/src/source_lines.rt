@@ -39,7 +39,7 @@ pub fn word_lines(alloc: Global, text: &[u8]) -> Result<Vec<usize>, AssemblyFaul
 
 /// Returns the earlier line that puts a word at a place of the line with a number, if there is one and no line up to this
 /// one has another fault. Fails if out of memory.
-pub(crate) fn overlapped_line(
+pub fn overlapped_line(
     alloc: Global,
     text: &[u8],
     number: usize,

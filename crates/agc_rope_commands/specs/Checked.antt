@@ -6,7 +6,7 @@ use Rattle.agc_store.specs.declared.rope_file.RopeForm.{RopeForm}
 use Rattle.agc_script.specs.Parse.{script_of}
 use Rattle.agc_asm.specs.Source.{source_in}
 use Rattle.agc_check.specs.KeyReport.{IsKeyReport, are_keys}
-use Rattle.agc_asm.specs.ListingReport.{IsListingReport}
+use Rattle.agc_listing_check.specs.ListingReport.{IsListingReport}
 use Rattle.agc_check.specs.Report.{IsFileReport}
 use Rattle.agc_listing.specs.declared.report.Report.{Report}
 use Rattle.agc_io.specs.Input.{ExplainsUnread}

@@ -15,9 +15,9 @@ use Rattle.agc_listing.specs.Order.{order_text}
 use Rattle.agc_encode.specs.Disassemble.{rope_source}
 use Rattle.agc_asm.specs.FaultText.{later_fault}
 use Rattle.agc_asm.specs.Laws.{WeavesTo}
-use Rattle.agc_asm.specs.MnemonicCheck.{is_extracode, misnamed_in, mnemonic_of}
+use Rattle.agc_listing_check.specs.MnemonicCheck.{is_extracode, misnamed_in, mnemonic_of}
 use Rattle.agc_asm.specs.Source.{IsSourceWoven, source_in}
-use Rattle.agc_asm.specs.declared.mnemonic_check.Misnamed.{Misnamed}
+use Rattle.agc_listing_check.specs.declared.mnemonic_check.Misnamed.{Misnamed}
 use Rattle.agc_asm.specs.declared.fault.AssemblyFault.{AssemblyFault}
 use Rattle.agc_asm.specs.declared.fault.AssemblyFault.TheVariants as source
 use Rattle.agc_study_args.specs.RopeRead.{reading_steps, rope_refusal}

@@ -7,11 +7,11 @@ ghost use Rattle.agc_rope_commands.specs.Checked.{IsWithMore};
 ghost use Rattle.agc_run_commands.specs.declared.fault.AnalysisFault.TheVariants as analysis;
 
 use crate::rope_bytes::read_banks;
-use agc_asm::{check_listing, erase_remarks, line_remarks};
 use agc_check::{check, check_keys, check_rope};
 use agc_dump::looks_like_numbers;
 use agc_io::{KEY_BYTES, ROPE_BYTES, ReadError, TEXT_BYTES, read_limited};
 use agc_listing::Report;
+use agc_listing_check::{check_listing, erase_remarks, line_remarks};
 use agc_load::LoadFault;
 use agc_mend::may_be_modules;
 use agc_run_commands::AnalysisFault;

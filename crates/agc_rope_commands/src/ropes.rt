@@ -2,7 +2,7 @@
 ghost use Rattle.std.specs.Prelude.{◌≡◌, ◌≢◌, Err, IfOk, IfErr, IfSome, OnOk, false, true};
 ghost use Rattle.std.specs.Prelude.{string_bytes};
 ghost use Rattle.agc_asm.specs.FaultText.{later_fault};
-ghost use Rattle.agc_asm.specs.MnemonicCheck.{misnamed_in};
+ghost use Rattle.agc_listing_check.specs.MnemonicCheck.{misnamed_in};
 ghost use Rattle.agc_asm.specs.Source.{IsSourceWoven, source_in};
 ghost use Rattle.agc_load.specs.Options.{parsed_by, says_nothing};
 ghost use Rattle.agc_rope_commands.specs.Listed.{IsListRefused, IsListText, IsStyledText, IsWeaveRefused, IsWoven};
@@ -13,9 +13,10 @@ ghost use Rattle.agc_asm.specs.declared.fault.AssemblyFault.{AssemblyFault};
 ghost use Rattle.agc_asm.specs.declared.fault.AssemblyFault.TheVariants as source_trouble;
 ghost use Rattle.agc_run_commands.specs.declared.fault.AnalysisFault.TheVariants as analysis;
 
-use agc_asm::{AssemblyFault, Misnamed, assemble, first_misnamed, rope_source, yul_source};
+use agc_asm::{AssemblyFault, assemble, rope_source, yul_source};
 use agc_io::{ReadError, TEXT_BYTES, read_limited};
 use agc_listing::{files_say_rope_words, list, push_order};
+use agc_listing_check::{Misnamed, first_misnamed};
 use agc_load::LoadFault;
 use agc_mend::BadWord;
 use agc_run_commands::AnalysisFault;

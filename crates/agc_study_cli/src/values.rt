@@ -1,6 +1,7 @@
 //! Parses the values of options: numbers, and the repeatable filters of a trace.
-use agc_asm::{is_order, nearest_order};
+use agc_asm::is_order;
 use agc_cli::{ArgsFault, number_of};
+use agc_listing_check::nearest_order;
 use agc_study_args::NAME;
 use agc_trace::Span;
 use agc_word::read_octal;

@@ -1,7 +1,7 @@
 //! Tests the report of `check` on a source that is read without a folder. The program reads each with its folder;
 //! `tests/study` compares its reports.
 use super::same;
-use agc_asm::check_listing;
+use agc_listing_check::check_listing;
 
 /// The name of another file after comments with bytes beyond ASCII.
 #[test]

@@ -1,6 +1,6 @@
 //! Tests a listing line whose mnemonic does not match its word. `tests/study` compares the remarks.
 use super::same;
-use agc_asm::{Written, first_misnamed};
+use agc_listing_check::{Written, first_misnamed};
 use agc_order::Basic;
 
 /// The remark on a line, and that INDEX alone is read as the basic order.

@@ -1,6 +1,5 @@
 //! Explains which word of a source line is at fault: the name in its first column, its order, or its operand.
-use crate::channels::note_channels;
-use crate::fault_place::{has_letter, word_at_fault};
+use agc_asm::{has_letter, note_channels, word_at_fault};
 use agc_encode::parse_lines;
 use agc_interpretive::Operation;
 use agc_listing::{

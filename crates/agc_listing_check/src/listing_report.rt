@@ -1,15 +1,11 @@
 //! Reports what is wrong with the text of a rope or with a source.
 ghost use Rattle.std.specs.Prelude.{◌≡◌, ◌++◌, ℕ, List, false, IfOk, OnOk, is_ok, string_bytes};
 ghost use Rattle.agc_asm.specs.Source.{source_in};
-ghost use Rattle.agc_asm.specs.ListingReport.{IsListingReport, listing_fault_text};
+ghost use Rattle.agc_listing_check.specs.ListingReport.{IsListingReport, listing_fault_text};
 
-use crate::assemble_source::assemble;
-use crate::fault::AssemblyFault;
-use crate::fault_place::word_at_fault;
-use crate::faulty::counted_faults;
 use crate::listing_doubt::doubts;
-use crate::source_lines::overlapped_line;
 use crate::source_remark::{push_letter_below, push_source_why};
+use agc_asm::{AssemblyFault, assemble, counted_faults, overlapped_line, word_at_fault};
 use agc_listing::{LineFault, Report, push_file_line, push_quoted, push_quoted_then, words_of};
 use agc_store::RopeForm;
 use agc_vocabulary::{SourceFault, code_of};

@@ -1,7 +1,7 @@
 use Rattle.std.specs.Prelude.{◌≡◌, ◌+◌, ◌≤◌, length}
 use Rattle.agc_word.specs.Text.{lines_of}
-use Rattle.agc_asm.specs.MnemonicCheck.{misnamed_from}
-use Rattle.agc_asm.proofs.mnemonic_check.first_misnamed.Given as goal
+use Rattle.agc_listing_check.specs.MnemonicCheck.{misnamed_from}
+use Rattle.agc_listing_check.proofs.mnemonic_check.first_misnamed.Given as goal
 
 abbrev pub invariant-loop-line : goal.invariant-loop-line
 invariant-loop-line l = record {

@@ -2,7 +2,7 @@
 ghost use Rattle.std.specs.Prelude.{◌≡◌, option_map};
 ghost use Rattle.agc_word.specs.Number.{pattern_of};
 ghost use Rattle.agc_word.specs.Text.{words_of};
-ghost use Rattle.agc_asm.specs.MnemonicCheck.{
+ghost use Rattle.agc_listing_check.specs.MnemonicCheck.{
   has_mnemonic,
   is_extracode,
   misnamed_at,
@@ -37,6 +37,7 @@ impl Written {
         }
     }
 
+    /// Returns the mnemonic of the order.
     pub fn mnemonic(self) -> &'static str
         ensures { result.now ≡ mnemonic_of self }
     {
@@ -46,6 +47,7 @@ impl Written {
         }
     }
 
+    /// Returns whether the order is an extracode.
     pub fn is_extracode(self) -> bool
         ensures { result ≡ is_extracode self }
     {

@@ -12,9 +12,9 @@ use Rattle.agc_listing.specs.Line.{line_named}
 use Rattle.agc_listing.specs.declared.fault.LineFault.{LineFault}
 use Rattle.agc_listing.specs.declared.line.PlacedWord.{PlacedWord}
 use Rattle.agc_vocabulary.specs.Mnemonic.{basic_named, extracode_named}
-use Rattle.agc_asm.specs.declared.mnemonic_check.Misnamed.{Misnamed}
-use Rattle.agc_asm.specs.declared.mnemonic_check.Written.{Written}
-use Rattle.agc_asm.specs.declared.mnemonic_check.Written.TheVariants as kind
+use Rattle.agc_listing_check.specs.declared.mnemonic_check.Misnamed.{Misnamed}
+use Rattle.agc_listing_check.specs.declared.mnemonic_check.Written.{Written}
+use Rattle.agc_listing_check.specs.declared.mnemonic_check.Written.TheVariants as kind
 
 -- the order of a mnemonic: the basic one for INDEX, which names two orders
 abbrev pub either_order : Option Basic → Option Extracode → Option Written

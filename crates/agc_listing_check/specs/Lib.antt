@@ -1,0 +1,2 @@
+pub mod MnemonicCheck
+pub mod ListingReport
