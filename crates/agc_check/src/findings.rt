@@ -15,6 +15,12 @@ use std::alloc::{AllocError, Global};
 /// The most repairs of a word that a report prints, apart from those with which the sum of the bank fits.
 const MOST_REPAIRS: usize = 4;
 
+/// The fewest banks whose sums show a reading: a single sum fits by chance in one bank of 16,000.
+const FEWEST_SUMS: usize = 2;
+
+/// The fewest banks whose sums make a reading sure.
+const SURE_SUMS: usize = 4;
+
 /// Appends the findings on a rope file, if it has whole words and not more than a rope.
 pub fn push_findings(
     alloc: Global,
@@ -153,6 +159,8 @@ fn push_bad_word(
 struct Readings {
     given: Option<Score>,
     best: Option<Score>,
+    /// Whether the best reading fits far better than every other one.
+    is_sure: bool,
     /// Whether the sums of the banks settle that the given form is right.
     is_settled: bool,
 }
@@ -161,7 +169,7 @@ impl Readings {
     /// Returns the reading that fits better than the given form, if there is one.
     fn better(self) -> Option<Score> {
         let best = self.best?;
-        if best.points > points(self.given) && !self.is_settled {
+        if !self.is_settled && fits_better(best, self.given?) {
             Some(best)
         } else {
             None
@@ -170,34 +178,74 @@ impl Readings {
 
     /// Returns whether the file surely has another reading than the given form.
     fn are_surely_others(self, is_placed: bool) -> bool {
-        match self.better() {
-            Some(better) => is_placed && is_far_better(points(self.given), better),
-            None => false,
-        }
+        is_placed && self.is_sure && self.better().is_some()
     }
 }
 
 /// Returns how well the given form and the best reading fit.
 fn readings_of(form: RopeForm, is_settled: bool, scores: &[Score]) -> Readings {
-    let mut readings = Readings {
-        given: None,
-        best: None,
-        is_settled,
-    };
+    let (mut given, mut best) = (None, None);
     for score in scores {
         if is_of_form(*score, form) {
-            readings.given = Some(*score);
+            given = Some(*score);
         }
-        if score.points > points(readings.best) {
-            readings.best = Some(*score);
-        }
+        best = better_of(best, *score);
     }
-    readings
+    let is_sure = match best {
+        Some(best) => scores
+            .iter()
+            .all(|other| *other == best || is_far_better(best, *other)),
+        None => false,
+    };
+    Readings {
+        given,
+        best,
+        is_sure,
+        is_settled,
+    }
 }
 
-/// Returns whether a reading fits so much better than one with these points that this is sure.
-fn is_far_better(given: usize, best: Score) -> bool {
-    best.points > given.saturating_mul(2).saturating_add(8)
+/// Returns the one of two readings that fits better; one for which nothing speaks is none.
+fn better_of(best: Option<Score>, other: Score) -> Option<Score> {
+    match best {
+        Some(best) if !fits_better(other, best) => Some(best),
+        None if other.points == 0 && sums_for(other) == 0 => None,
+        _ => Some(other),
+    }
+}
+
+/// Returns the number of banks whose sums speak for a reading.
+fn sums_for(score: Score) -> usize {
+    let fitting = score.sums.numbers.saturating_add(score.sums.complements);
+    if fitting < FEWEST_SUMS { 0 } else { fitting }
+}
+
+/// Returns whether sums speak for a reading, and all of them are the banks' numbers: in inverted words the same are complements.
+fn are_numbers(score: Score) -> bool {
+    sums_for(score) > 0 && score.sums.complements == 0
+}
+
+/// Returns whether a reading fits better than another one: by more sums of banks, else by those that are numbers, else by its
+/// points.
+fn fits_better(one: Score, other: Score) -> bool {
+    let (sums, others) = (sums_for(one), sums_for(other));
+    if sums != others {
+        return sums > others;
+    }
+    match (are_numbers(one), are_numbers(other)) {
+        (true, false) => true,
+        (false, true) => false,
+        _ => one.points > other.points,
+    }
+}
+
+/// Returns whether a reading fits so much better than another one that this is sure: by the sums of enough banks, else by its
+/// points.
+fn is_far_better(best: Score, other: Score) -> bool {
+    let (sums, others) = (sums_for(best), sums_for(other));
+    let by_sums = sums > others || are_numbers(best) && other.sums.numbers == 0;
+    let by_points = best.points > other.points.saturating_mul(2).saturating_add(8);
+    sums >= others && (by_points || by_sums && sums >= SURE_SUMS)
 }
 
 /// Appends how well the given form fits, and another reading if it fits better, unless the given one is settled by the
@@ -208,16 +256,9 @@ fn push_readings(text: &mut String, is_placed: bool, readings: Readings) -> Resu
     };
     push_score(text, given)?;
     match (readings.better(), readings.best) {
-        (Some(better), _) => push_better(text, is_placed, given, better),
+        (Some(better), _) => push_better(text, is_placed && readings.is_sure, better),
         (None, Some(_)) => Ok(()),
         (None, None) => text.push_str("    no reading looks like a program (likely)\n"),
-    }
-}
-
-fn points(score: Option<Score>) -> usize {
-    match score {
-        Some(score) => score.points,
-        None => 0,
     }
 }
 
@@ -258,17 +299,8 @@ fn push_score(text: &mut String, score: Score) -> Result<(), AllocError> {
 }
 
 /// Appends a reading that fits better than the given one, and how sure that is.
-fn push_better(
-    text: &mut String,
-    is_placed: bool,
-    given: Score,
-    best: Score,
-) -> Result<(), AllocError> {
-    let sure = if is_placed && is_far_better(given.points, best) {
-        "sure"
-    } else {
-        "likely"
-    };
+fn push_better(text: &mut String, is_sure: bool, best: Score) -> Result<(), AllocError> {
+    let sure = if is_sure { "sure" } else { "likely" };
     write!(text, "    it reads better in another form ({sure}), ")?;
     push_score(text, best)
 }

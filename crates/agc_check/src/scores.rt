@@ -5,11 +5,11 @@ ghost use Rattle.agc_store.specs.Places.{fixed_words};
 
 use crate::walk::{Reach, follow_orders};
 use agc_mend::{
-    BitChange, ParityBit, Reading, convert, damaged_store, file_of_words, is_bad_parity,
-    undo_bit_change, word_at,
+    BitChange, ParityBit, Reading, SumFit, convert, damaged_store, file_of_words, is_bad_parity,
+    sum_in_bank, undo_bit_change, word_at,
 };
 use agc_store::RopeForm;
-use agc_store::place::FIXED_WORDS;
+use agc_store::place::{FIXED_BANKS, FIXED_WORDS};
 use std::alloc::{AllocError, Global};
 
 /// The changes of bits that are tried.
@@ -20,6 +20,16 @@ const CHANGES: [BitChange; 4] = [
     BitChange::Reversed,
 ];
 
+/// How many banks' sums fit, as the flight programs check them. Bank 00 does not count: its sum fits if all its words are
+/// inverted, too.
+#[derive(Clone, Copy, Debug, PartialEq, Eq)]
+pub struct Sums {
+    /// The banks whose sum is their number.
+    pub numbers: usize,
+    /// The banks whose sum is the complement of their number.
+    pub complements: usize,
+}
+
 /// How well a reading fits the words of a file.
 #[derive(Clone, Copy, Debug, PartialEq, Eq)]
 pub struct Score {
@@ -28,7 +38,9 @@ pub struct Score {
     pub change: BitChange,
     /// Per cent of the words that are not 0 whose parity is right, or whose unused bit is 0.
     pub bits: usize,
-    /// What is reached in the rope that the file holds in this reading.
+    /// The sums of the banks of the rope that the file holds in this reading.
+    pub sums: Sums,
+    /// What is reached in this rope.
     pub reach: Reach,
     /// The legal orders that are reached less four for each other place that is reached, weighed by how far `bits` is
     /// above one half.
@@ -82,6 +94,7 @@ fn score_of(
     };
     let words = undo_bit_change(alloc, reading, change, words)?;
     let meant = convert(alloc, reading, plain, words.as_slice())?;
+    let sums = sums_of(alloc, meant.as_slice())?;
     let meant = without_filler(alloc, meant.as_slice())?;
     let bits = bits_right(meant.as_slice(), last);
     let reach = reach_of(alloc, meant.as_slice())?;
@@ -89,8 +102,29 @@ fn score_of(
         reading,
         change,
         bits,
+        sums,
         reach,
         points: points_of(bits, reach),
+    })
+}
+
+/// Returns how many sums fit in the rope of these words, each with its parity bit last.
+fn sums_of(alloc: Global, words: &[u16]) -> Result<Sums, AllocError> {
+    let file = file_of_words(alloc, words)?;
+    let store = damaged_store(alloc, RopeForm::Parity, file.as_slice())?;
+    let (mut numbers, mut complements) = (0usize, 0usize);
+    for bank in 1..FIXED_BANKS {
+        match sum_in_bank(&store, bank) {
+            Some(sum) if sum.fit == SumFit::Number => numbers = numbers.saturating_add(1),
+            Some(sum) if sum.fit == SumFit::Complement => {
+                complements = complements.saturating_add(1);
+            }
+            _ => {}
+        }
+    }
+    Ok(Sums {
+        numbers,
+        complements,
     })
 }
 
