@@ -8,6 +8,7 @@ import os
 import re
 import shlex
 import subprocess
+from itertools import product
 
 import judge
 from merging import BANK, in_classic_order, is_even, place_text, read, total, with_parity, without_parity, write
@@ -185,6 +186,27 @@ def exchanged(draw):
         found = patterns("image")
         judge_lines(f"exchanged {n}: classic", wanted, found)
         judge_mended(f"exchanged {n}: classic", without_parity(in_classic_order(sound)), found)
+
+
+def in_a_circle(draw):
+    """Three banks or more are in each other's places: each sum is the number of the next."""
+    for n, moved in enumerate(([3, 9, 12], [4, 5, 6], range(36))):
+        sound = draw_rope(draw, range(36) if n == 2 else [2, *moved, 30], 200)
+        places = [*moved[1:], moved[0]] if n < 2 else draw.sample(moved, 36)
+        words = list(sound)
+        for bank, there in zip(moved, places):
+            words[bank * BANK:(bank + 1) * BANK] = sound[there * BANK:(there + 1) * BANK]
+        write("image", words)
+        found = patterns("image", "--form", "parity", "--first-bank", "00")
+        lines = {0: ["bank 03 has the words of bank 11; its sum is that number (likely)",
+                     "bank 11 has the words of bank 14; its sum is that number (likely)",
+                     "bank 14 has the words of bank 03; its sum is that number (likely)"],
+                 1: ["banks 04 to 05 have the words of banks 05 to 06; their sums, 2, are those numbers (likely)",
+                     "bank 06 has the words of bank 04; its sum is that number (likely)"]}
+        if n in lines:
+            judge_lines(f"in a circle {n}", [("moved", line) for line in lines[n]], found)
+        judge.check(f"in a circle {n}: they are named", {kind for kind, _, _ in found} <= {"moved", "exchanged"})
+        judge_mended(f"in a circle {n}", sound, found[-1:])
 
 
 def left_out(draw):
@@ -407,6 +429,46 @@ def changed_words(draw):
             judge_mended(f"{kind} {n}: banks", sound, found)
 
 
+def inverted_with_bank_00(draw):
+    """All words are inverted: those of bank 00 too, whose sum fits either way, and of a bank that has no unused place."""
+    for kind in ("inverted", "inverted but for the parity bits"):
+        for n in range(4):
+            banks = [0, *sorted(draw.sample(range(1, 36), 5))]
+            sound = draw_rope(draw, banks, 100, BANK - 30)
+            for bank in banks[:n % 2] + banks[4:4 + n // 2]:
+                sound[bank * BANK:(bank + 1) * BANK] = draw_rope(draw, [bank], BANK, BANK)[bank * BANK:(bank + 1) * BANK]
+            write("image", [CHANGES[kind](word) for word in sound])
+            found = patterns("image", "--form", "parity")
+            judge_lines(f"{kind} {n}, with bank 00", [(kind, "all words; with that undone the sums of all used banks are right (likely)")], found)
+            judge_mended(f"{kind} {n}, with bank 00", sound, found)
+
+
+def layouts(draw):
+    """A rope of random words, in each other layout: the sums alone show how it has to be read, so that is sure."""
+    for n, banks in enumerate((range(36), [1, 2, 3, 4, 8, 22])):
+        sound = draw_rope(draw, banks)
+        for first, classic, swap, kind in product((False, True), (False, True), (False, True), (None, *BITS)):
+            if not (first or classic or swap or kind):
+                continue
+            words = in_classic_order(sound) if classic else list(sound)
+            words = [word >> 1 | (word & 1) << 15 for word in words] if first else words
+            words = [changed_back(word, kind, first) for word in words]
+            write("image", [word >> 8 | (word & 255) << 8 for word in words] if swap else words)
+            reading = f"{'classic-' if classic else ''}parity{'-first' if first else ''}{' --swap' if swap else ''}{f' --bits {kind}' if kind else ''}"
+            report = run("check", "image", "--form", "parity", "--first-bank", "00")[1].decode()
+            judge.check(f"layouts {n}: {reading}", f"    it reads better in another form (sure), read as {reading}: 100%" in report)
+
+
+BITS = ("inverted", "word-inverted", "reversed")
+
+
+def changed_back(word, kind, first):
+    """Returns a word with a change of its bits, whose parity bit is first or last."""
+    if kind == "reversed":
+        return CHANGES["reversed"](word)
+    return word ^ {None: 0, "inverted": 0xFFFF, "word-inverted": 0x7FFF if first else 0xFFFE}[kind]
+
+
 def bank_list(banks):
     """Returns banks in ascending order as `--banks` has them."""
     parts = []
@@ -464,6 +526,6 @@ def sound_ropes(draw):
         judge.judge(f"examples/{name}", [], patterns(os.path.join(judge.TOP, f"examples/{name}/rope")))
 
 
-GROUPS = (stuck_parts, few_words, exchanged, left_out, module_alone, twice, missing, one_wrong_bit, alone_in_a_file,
-          wrong_first_word, filled_with_ones, zero_first, columns_apart, by_chance, more_than_half, changed_words, one_place,
-          sound_ropes)
+GROUPS = (stuck_parts, few_words, exchanged, in_a_circle, left_out, module_alone, twice, missing, one_wrong_bit, alone_in_a_file,
+          wrong_first_word, filled_with_ones, zero_first, columns_apart, by_chance, more_than_half, changed_words,
+          inverted_with_bank_00, layouts, one_place, sound_ropes)

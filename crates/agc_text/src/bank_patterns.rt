@@ -2,8 +2,8 @@
 //! moved or changed bit by bit.
 use crate::bank_list::{push_banks, push_list};
 use crate::bank_sums::{
-    BANKS, RopeBits, WordsRead, has_last_bit, has_same_words, has_wrong_parity, is_all_ones,
-    is_first_empty, is_first_named, is_used, is_used_read, number_of, sum_read,
+    BANKS, RopeBits, WordsRead, has_last_bit, has_same_words, has_wrong_parity, is_first_empty,
+    is_first_named, is_used, is_used_read, looks_inverted, may_be_inverted, number_of, sum_read,
 };
 use agc_mend::{NO_BANK, SumFit, fit_of};
 use agc_store::RopeForm;
@@ -73,7 +73,7 @@ fn banks_of(alloc: Global, form: RopeForm, rope: &RopeBits) -> Result<Banks, All
         banks.named.push(named)?;
     }
     for bank in 0..BANKS {
-        let held = if is_exchanged(&banks, bank) || is_in_run(&banks, bank) {
+        let held = if is_in_circle(&banks, bank) || is_in_run(&banks, bank) {
             other_named(&banks, bank)
         } else {
             None
@@ -103,6 +103,19 @@ fn is_exchanged(banks: &Banks, bank: usize) -> bool {
         Some(other) => other_named(banks, other) == Some(bank),
         None => false,
     }
+}
+
+/// Returns whether the sums lead from a bank to others and back, each the number of the next: of two exchanged banks, or of more.
+fn is_in_circle(banks: &Banks, bank: usize) -> bool {
+    let mut at = bank;
+    for _bank in 0..BANKS {
+        match other_named(banks, at) {
+            Some(next) if next == bank => return true,
+            Some(next) => at = next,
+            None => return false,
+        }
+    }
+    false
 }
 
 /// Returns whether the sum of the used bank before or after a bank is the number of a bank as far away as for this one.
@@ -151,10 +164,14 @@ fn change_of(form: RopeForm, rope: &RopeBits, bank: usize) -> Option<WordsRead> 
         .iter()
         .copied()
         .find(|read| may_be_read(form, rope, bank, *read)),
-        SumFit::Complement if is_all_ones(form, rope.plain.as_slice(), bank, 0xFFFF) => Some(
-            WordsRead::Inverted,
-        ),
-        SumFit::Complement if is_all_ones(form, rope.plain.as_slice(), bank, 0xFFFE) => {
+        fit
+            if fits_inverted(bank, fit)
+                && looks_inverted(form, rope.plain.as_slice(), bank, WordsRead::Inverted) => {
+            Some(WordsRead::Inverted)
+        }
+        fit
+            if fits_inverted(bank, fit)
+                && looks_inverted(form, rope.plain.as_slice(), bank, WordsRead::WordInverted) => {
             Some(WordsRead::WordInverted)
         }
         _
@@ -164,6 +181,11 @@ fn change_of(form: RopeForm, rope: &RopeBits, bank: usize) -> Option<WordsRead> 
         }
         _ => None,
     }
+}
+
+/// Returns whether the sum of a bank is one of inverted words. That of bank 00 is, +0 or -0, if it fits at all.
+fn fits_inverted(bank: usize, fit: SumFit) -> bool {
+    fit == SumFit::Complement || fit == SumFit::Number && bank == 0
 }
 
 /// Returns whether the sum of a bank is right if its words are read in one way, and no word speaks against that. With its
@@ -301,13 +323,21 @@ fn push_run(
             count = count.saturating_add(1);
         }
     }
+    if count == 1 {
+        return writeln!(
+            text,
+            "moved: bank {first:02o} has the words of bank {other:02o}; its sum is that number (likely)"
+        );
+    }
     let end = last.saturating_add(other).saturating_sub(first);
     write!(
         text,
         "moved: banks {first:02o} to {last:02o} have the words of banks {other:02o} to {end:02o}; their sums, {count}, are those numbers (likely)"
     )?;
     let module = (first / MODULE_BANKS).saturating_add(1);
-    if other == first.saturating_add(MODULE_BANKS) {
+    if is_in_circle(banks, first) {
+        // All modules are there, in other places.
+    } else if other == first.saturating_add(MODULE_BANKS) {
         write!(text, "; module {module} is missing")?;
     } else if first == other.saturating_add(MODULE_BANKS) {
         let before = module.saturating_sub(1);
@@ -522,42 +552,37 @@ fn push_changed(
     }
     if are_all_changed(form, rope, banks, read) {
         push_all_changed(text, form, rope, read)
-    } else if shows_change(form, rope, banks, read, changed.len()) {
+    } else if shows_change(form, rope, banks, read, changed.as_slice()) {
         push_banks_changed(text, form, changed.as_slice(), read)
     } else {
         Ok(())
     }
 }
 
-/// Returns whether `count` banks, but not all, show a change of their words: of a move by one place at least two, of inverted
-/// words no other bank that is filled with ones.
+/// Returns whether some banks, but not all, show a change of their words: of a move by one place at least two, of inverted words
+/// one other than bank 00, whose sum shows nothing, and no other bank that looks inverted.
 fn shows_change(
     form: RopeForm,
     rope: &RopeBits,
     banks: &Banks,
     read: WordsRead,
-    count: usize,
+    changed: &[u8],
 ) -> bool {
     match read {
-        WordsRead::Later | WordsRead::Earlier => count >= 2,
-        WordsRead::Inverted => !is_other_filled(form, rope, banks, read, 0xFFFF),
-        WordsRead::WordInverted => !is_other_filled(form, rope, banks, read, 0xFFFE),
+        WordsRead::Later | WordsRead::Earlier => changed.len() >= 2,
+        WordsRead::Inverted | WordsRead::WordInverted => {
+            changed.iter().any(|bank| *bank != 0) && !is_other_inverted(form, rope, banks, read)
+        }
         _ => true,
     }
 }
 
-/// Returns whether a bank that is not read in one way is filled with ones.
-fn is_other_filled(
-    form: RopeForm,
-    rope: &RopeBits,
-    banks: &Banks,
-    read: WordsRead,
-    ones: u16,
-) -> bool {
+/// Returns whether a bank that is not read in one way looks inverted in that way.
+fn is_other_inverted(form: RopeForm, rope: &RopeBits, banks: &Banks, read: WordsRead) -> bool {
     for bank in 0..BANKS {
         let is_other = is_at(banks.used.as_slice(), bank)
             && at(banks.read.as_slice(), bank) != Some(read);
-        if is_other && is_all_ones(form, rope.plain.as_slice(), bank, ones) {
+        if is_other && looks_inverted(form, rope.plain.as_slice(), bank, read) {
             return true;
         }
     }
@@ -618,7 +643,7 @@ fn are_all_changed(form: RopeForm, rope: &RopeBits, banks: &Banks, read: WordsRe
     let mut used = 0usize;
     for bank in 0..BANKS {
         if is_used_read(rope, bank, read) && (cut != Some(bank) || has_sum(rope, bank, read)) {
-            if !may_be_changed(rope, banks, bank, read) {
+            if !may_be_changed(form, rope, banks, bank, read) {
                 return false;
             }
             used = used.saturating_add(1);
@@ -632,10 +657,20 @@ fn has_sum(rope: &RopeBits, bank: usize, read: WordsRead) -> bool {
 }
 
 /// Returns whether the words of a bank may have been changed in one way, as those of other banks were.
-fn may_be_changed(rope: &RopeBits, banks: &Banks, bank: usize, read: WordsRead) -> bool {
+fn may_be_changed(
+    form: RopeForm,
+    rope: &RopeBits,
+    banks: &Banks,
+    bank: usize,
+    read: WordsRead,
+) -> bool {
     let is_changed = at(banks.read.as_slice(), bank) == Some(read);
     match read {
-        WordsRead::Inverted | WordsRead::WordInverted => is_changed,
+        WordsRead::Inverted | WordsRead::WordInverted => {
+            is_changed
+                || fits_inverted(bank, fit_in(rope, bank, WordsRead::Plain))
+                    && may_be_inverted(form, rope.plain.as_slice(), bank, read)
+        }
         WordsRead::Later => {
             is_changed || is_first_empty(rope.plain.as_slice(), bank) && has_sum(rope, bank, read)
         }

@@ -147,13 +147,22 @@ pub(crate) fn has_same_words(bits: &[u16], first: usize, second: usize) -> bool 
     different >= LEAST
 }
 
-/// Returns whether a bank looks inverted: its last word and more words than are empty are these ones; or, in the form with
-/// parity, all words but these have wrong parity.
-pub(crate) fn is_all_ones(form: RopeForm, bits: &[u16], bank: usize, ones: u16) -> bool {
+/// How many words of a bank are filled with ones, are 0, and among the others have right and wrong parity.
+#[derive(Clone, Copy, Debug, PartialEq, Eq)]
+struct Fill {
+    full: usize,
+    empty: usize,
+    right: usize,
+    wrong: usize,
+}
+
+/// Counts the words of a bank. In the form with parity the last bit of a word that is filled with ones does not count: an
+/// unused place has a parity bit or none.
+fn fill_of(form: RopeForm, bits: &[u16], bank: usize, ones: u16) -> Fill {
     let (mut full, mut empty, mut right, mut wrong) = (0usize, 0usize, 0usize, 0usize);
     for offset in 0..SIZE {
         let word = bits_at(bits, start_of(bank).saturating_add(offset));
-        if word == ones {
+        if word == ones || form == RopeForm::Parity && word >= 0xFFFE {
             full = full.saturating_add(1);
         } else if word == 0 {
             empty = empty.saturating_add(1);
@@ -163,9 +172,48 @@ pub(crate) fn is_all_ones(form: RopeForm, bits: &[u16], bank: usize, ones: u16) 
             right = right.saturating_add(1);
         }
     }
-    let is_filled = full >= LEAST && full > empty;
-    let is_even = form == RopeForm::Parity && ones == 0xFFFE && right == 0 && wrong >= LEAST;
-    is_filled || is_even
+    Fill {
+        full,
+        empty,
+        right,
+        wrong,
+    }
+}
+
+/// Returns whether a bank looks inverted in one way: more words than are empty are filled with ones, and in the form with
+/// parity most other words have the parity that they have then; or there all of them have wrong parity.
+pub(crate) fn looks_inverted(form: RopeForm, bits: &[u16], bank: usize, read: WordsRead) -> bool {
+    let fill = fill_of(form, bits, bank, ones_of(read));
+    let is_filled = fill.full >= LEAST && fill.full > fill.empty;
+    match (form, read) {
+        (RopeForm::Parity, WordsRead::WordInverted) => {
+            fill.wrong > fill.right && (is_filled || fill.right == 0 && fill.wrong >= LEAST)
+        }
+        (RopeForm::Parity, _) => is_filled && fill.right >= fill.wrong,
+        (RopeForm::Classic, _) => is_filled,
+    }
+}
+
+/// Returns whether nothing in a bank speaks against inverted words but that few are filled with ones: few are empty, and in the
+/// form with parity most words have the parity that they have then.
+pub(crate) fn may_be_inverted(form: RopeForm, bits: &[u16], bank: usize, read: WordsRead) -> bool {
+    let fill = fill_of(form, bits, bank, ones_of(read));
+    let is_empty = fill.empty >= LEAST && fill.empty > fill.full;
+    let has_parity = match (form, read) {
+        (RopeForm::Parity, WordsRead::WordInverted) => fill.wrong > fill.right,
+        (RopeForm::Parity, _) => fill.right >= fill.wrong,
+        (RopeForm::Classic, _) => true,
+    };
+    has_parity && !is_empty
+}
+
+/// Returns a word that is 0 with its bits inverted in one way.
+fn ones_of(read: WordsRead) -> u16 {
+    if read == WordsRead::WordInverted {
+        0xFFFE
+    } else {
+        0xFFFF
+    }
 }
 
 /// Returns whether a word of a bank has wrong parity.
