@@ -55,22 +55,74 @@ impl<'a> FaultyLine<'a> {
     }
 }
 
-/// Returns the faulty lines of a source, at most `most`: those of the first pass, or of the second if the first has
-/// none. A faulty line takes the room that it would take without the fault, if its operation is known. Words at places
-/// that are taken are not found. Fails if out of memory.
-pub fn faulty_lines(
-    alloc: Global,
-    text: &[u8],
-    most: usize,
-) -> Result<Vec<FaultyLine<'_>>, AllocError> {
-    let mut found = Vec::new(alloc);
+/// Returns the faulty lines of a source in order: those of the first pass, and of the others those of the second. A faulty line
+/// takes the room that it would take without the fault, if its operation is known. Words at places that are taken are not
+/// found. Fails if out of memory.
+fn faulty_lines(alloc: Global, text: &[u8]) -> Result<Vec<FaultyLine<'_>>, AllocError> {
     let lines = parse_lines(alloc, text)?;
     let mut names = first_names(alloc, &lines)?;
-    push_faulty_labels(&mut found, &mut names, &lines, most)?;
-    if found.is_empty() {
-        push_faulty_words(&mut found, &names, &lines, most)?;
+    let labels = faulty_labels(alloc, &mut names, &lines)?;
+    let words = faulty_words(alloc, &names, &lines)?;
+    let lost = lost_names(alloc, labels.as_slice(), &lines)?;
+    merged(alloc, labels.as_slice(), words.as_slice(), &lost)
+}
+
+/// Returns the names of lines that are faulty in the first pass, so that they have no place.
+fn lost_names<'a>(
+    alloc: Global,
+    labels: &[FaultyLine<'a>],
+    lines: &[SourceLine<'a>],
+) -> Result<BTreeMap<&'a [u8], usize>, AllocError> {
+    let mut lost = BTreeMap::new(alloc);
+    for faulty in labels {
+        let label = match lines.get(faulty.line.saturating_sub(1)) {
+            Some(line) => line.label,
+            None => None,
+        };
+        if let Some(label) = label {
+            lost.insert(label, faulty.line)?;
+        }
     }
+    Ok(lost)
+}
+
+/// Returns the faulty lines of both passes in order. A line that is faulty in the first pass is not named again, and a name
+/// that such a line has is not unknown.
+fn merged<'a>(
+    alloc: Global,
+    labels: &[FaultyLine<'a>],
+    words: &[FaultyLine<'a>],
+    lost: &BTreeMap<&'a [u8], usize>,
+) -> Result<Vec<FaultyLine<'a>>, AllocError> {
+    let mut found = Vec::new(alloc);
+    let mut at = 0;
+    for label in labels {
+        at = push_before(&mut found, words, at, label.line, lost)?;
+        found.push(*label)?;
+    }
+    push_before(&mut found, words, at, usize::MAX, lost)?;
     Ok(found)
+}
+
+/// Adds those of these faulty lines, from an index on, that come before a line. Returns the index of the first one behind it.
+fn push_before<'a>(
+    found: &mut Vec<FaultyLine<'a>>,
+    words: &[FaultyLine<'a>],
+    from: usize,
+    line: usize,
+    lost: &BTreeMap<&'a [u8], usize>,
+) -> Result<usize, AllocError> {
+    for index in from..words.len() {
+        let faulty = words[index];
+        if faulty.line > line {
+            return Ok(index);
+        }
+        let is_lost = faulty.fault == SourceFault::UnknownName && lost.get(faulty.word).is_some();
+        if faulty.line < line && !is_lost {
+            found.push(faulty)?;
+        }
+    }
+    Ok(words.len())
 }
 
 /// A fault, and the number of lines that have it.
@@ -84,7 +136,7 @@ pub struct CountedFault<'a> {
 
 /// Returns the faults of a source, in the order of its lines; an unknown name is one fault. Fails if out of memory.
 pub fn counted_faults(alloc: Global, text: &[u8]) -> Result<Vec<CountedFault<'_>>, AllocError> {
-    let found = faulty_lines(alloc, text, usize::MAX)?;
+    let found = faulty_lines(alloc, text)?;
     let mut uses = uses_of(alloc, found.as_slice())?;
     let mut faults = Vec::new(alloc);
     for faulty in found.iter() {
@@ -117,13 +169,13 @@ fn uses_of<'a>(
     Ok(uses)
 }
 
-/// Adds the faulty lines of the first pass, and the names of the others.
-fn push_faulty_labels<'a>(
-    found: &mut Vec<FaultyLine<'a>>,
+/// Returns the faulty lines of the first pass, and adds the names of the others.
+fn faulty_labels<'a>(
+    alloc: Global,
     names: &mut Names<'a>,
     lines: &[SourceLine<'a>],
-    most: usize,
-) -> Result<(), AllocError> {
+) -> Result<Vec<FaultyLine<'a>>, AllocError> {
+    let mut found = Vec::new(alloc);
     let mut counter = LocationCounter::new();
     let mut number = 0;
     let mut rest = lines;
@@ -135,22 +187,22 @@ fn push_faulty_labels<'a>(
                 counter = next.counter;
             }
             Err(fault) => {
-                push_faulty(found, FaultyLine::new(number, line.plain, fault), most)?;
+                found.push(FaultyLine::new(number, line.plain, fault))?;
                 counter = moved_past(names, counter, line);
             }
         }
         rest = after;
     }
-    Ok(())
+    Ok(found)
 }
 
-/// Adds the faulty lines of the second pass.
-fn push_faulty_words<'a>(
-    found: &mut Vec<FaultyLine<'a>>,
+/// Returns the faulty lines of the second pass.
+fn faulty_words<'a>(
+    alloc: Global,
     names: &Names,
     lines: &[SourceLine<'a>],
-    most: usize,
-) -> Result<(), AllocError> {
+) -> Result<Vec<FaultyLine<'a>>, AllocError> {
+    let mut found = Vec::new(alloc);
     let mut state = State::new();
     let mut number = 0;
     let mut rest = lines;
@@ -159,7 +211,7 @@ fn push_faulty_words<'a>(
         match assemble_line(names, state, line) {
             Ok(step) => state = step.state,
             Err(fault) => {
-                push_faulty(found, FaultyLine::new(number, line.plain, fault), most)?;
+                found.push(FaultyLine::new(number, line.plain, fault))?;
                 state.counter = moved_past(names, state.counter, line);
                 state.leads = false;
             }
@@ -168,21 +220,9 @@ fn push_faulty_words<'a>(
     }
     if let (Some(fault), Some(last)) = (state.counter.due.fault_at_end(false), lines.last()) {
         let fault = SourceFault::Interpretive(fault);
-        push_faulty(found, FaultyLine::new(number, last.plain, fault), most)?;
+        found.push(FaultyLine::new(number, last.plain, fault))?;
     }
-    Ok(())
-}
-
-/// Adds a faulty line, if there are fewer than `most`.
-fn push_faulty<'a>(
-    found: &mut Vec<FaultyLine<'a>>,
-    faulty: FaultyLine<'a>,
-    most: usize,
-) -> Result<(), AllocError> {
-    if found.len() < most {
-        found.push(faulty)?;
-    }
-    Ok(())
+    Ok(found)
 }
 
 /// Returns where the next line goes after a faulty one.

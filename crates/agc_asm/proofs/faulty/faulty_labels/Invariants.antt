@@ -1,6 +1,6 @@
 use Rattle.std.specs.Prelude.{◌+◌, ◌≤◌, length}
 use Rattle.agc_encode.specs.LocationCounter.{IsAt}
-use Rattle.agc_asm.proofs.faulty.push_faulty_labels.Given as goal
+use Rattle.agc_asm.proofs.faulty.faulty_labels.Given as goal
 
 abbrev pub invariant-loop-rest : goal.invariant-loop-rest
 invariant-loop-rest l = record {
