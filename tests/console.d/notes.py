@@ -149,6 +149,12 @@ def amount_of(shown, worth, unit):
     return ("-" if shown[0] == "-" else "") + text + (f" {unit}" if unit else "")
 
 
+def minutes_of(shown):
+    """Returns what a register of minutes and seconds says."""
+    found = re.fullmatch(r"([+_-])(\d\d)_(\d\d)", shown)
+    return f"{'-' if found[1] == '-' else ''}{int(found[2])} min {int(found[3])} s" if found else "–"
+
+
 def relay_words(panel):
     """Returns the words of channel 10 that show a panel, by the wiring of the DSKY."""
     code = {"0": 0o25, "1": 0o3, "2": 0o31, "3": 0o33, "4": 0o17, "5": 0o36, "6": 0o34, "7": 0o23, "8": 0o35, "9": 0o37, "_": 0}
@@ -198,11 +204,11 @@ def try_nouns():
         shown["VERB"] = dice.choice(["16", "06", "__", "1_", "35"])
         shown["NOUN"] = dice.choice(["68", "60", "__", "99"])
         for register in ("R1", "R2", "R3"):
-            shown[register] = dice.choice(["______", dice.choice("+-_") + f"{dice.randrange(100000):05}", "+1_345"])
+            shown[register] = dice.choice(["______", dice.choice("+-_") + f"{dice.randrange(100000):05}", "+1_345", f"{dice.choice('+-_')}{dice.randrange(60):02}_{dice.randrange(60):02}"])
         parts = []
         for register in dice.sample(["R1", "R2", "R3"], dice.randrange(1, 4)):
-            worth = dice.choice(["1", "0.1", "0.01", "2.5", "10", "octal", "123456789.123456789"])
-            parts.append((register, dice.choice(names), worth, dice.choice(["", "m", "m/s"]) if worth != "octal" else ""))
+            worth = dice.choice(["1", "0.1", "0.01", "2.5", "10", "octal", "123456789.123456789", "min sec"])
+            parts.append((register, dice.choice(names), worth, dice.choice(["", "m", "m/s"]) if worth[0].isdigit() else ""))
         text = ", ".join(f"{register} {name} = {worth} {unit}".rstrip() for register, name, worth, unit in parts)
         nouns = file_with("nouns", f"# nouns\nverb 16   monitor\t it\nverb 06 decimal # shown once\n\nnoun 68 {text}\nnoun 60 {text}\n")
         status, lines, errors = answered("go 400\npanel\n", rope_that_shows(shown, "shows"), os.devnull, "--nouns", nouns)
@@ -214,6 +220,7 @@ def try_nouns():
             meaning = {"16": ": monitor it", "06": ": decimal"}.get(shown["VERB"], "")
             amounts = [
                 f"{name} {amount_of(shown[register], '1' if worth == 'octal' else worth, unit)}"
+                if worth != "min sec" else f"{name} {minutes_of(shown[register])}"
                 for register, name, worth, unit in parts
                 if shown[register] != "______" and shown["NOUN"] in ("68", "60")
             ]
@@ -221,15 +228,20 @@ def try_nouns():
         judge(f"panel {number} in words", (0, wanted, []), (status, panel[8:], errors))
     by_hand = dict(BLANKS, VERB="16", NOUN="68", R1="+00377", R2="+00465", R3="-00012")
     status, lines, _ = answered("go 400\nquiet\npanel\n", rope_that_shows(by_hand, "shows"), os.devnull, "--nouns", os.path.join(DESCENT, "nouns"))
+    by_time = file_with("by-time", "noun 44 R1 apolune = 0.1 nmi, R3 time to perilune = min sec\n")
+    for signs, words in (("-12_05", "-12 min 5 s"), ("+00_59", "0 min 59 s"), ("+12005", "–"), ("+1__05", "–")):
+        by_hand_too = dict(BLANKS, VERB="16", NOUN="44", R3=signs)
+        printed = answered("go 400\nquiet\npanel\n", rope_that_shows(by_hand_too, "shows"), os.devnull, "--nouns", by_time)[1][-2]
+        judge(f"noun 44 by hand: {signs}", f"# V16 N44: time to perilune {words}", printed)
     judge("noun 68 by hand", "# V16 N68: monitor: slant range 377 m, time to go 46.5 s, radar less altitude -12 m", lines[-2])
     for text, fault in {
         "word 16 x\n": "line 1: a line begins with verb or noun",
         "\nverb 6 x\n": "line 2: a verb or noun has two digits",
         "verb 16 x\nverb 16 y\n": "line 2: an earlier line has this verb or noun",
         "noun 16\n": "line 1: the verb or noun has no meaning",
-        "noun 16 RR x = 1\n": "line 1: each part of a noun is R1 NAME = WORTH UNIT, or R1 NAME = octal; R2 and R3 too",
-        "noun 16 R1 x = 1 a b\n": "line 1: each part of a noun is R1 NAME = WORTH UNIT, or R1 NAME = octal; R2 and R3 too",
-        "noun 16 R1 x = 1234567890\n": "line 1: each part of a noun is R1 NAME = WORTH UNIT, or R1 NAME = octal; R2 and R3 too",
+        "noun 16 RR x = 1\n": "line 1: each part of a noun is R1 NAME = WORTH UNIT, or = octal, or = min sec; R2 and R3 too",
+        "noun 16 R1 x = 1 a b\n": "line 1: each part of a noun is R1 NAME = WORTH UNIT, or = octal, or = min sec; R2 and R3 too",
+        "noun 16 R1 x = 1234567890\n": "line 1: each part of a noun is R1 NAME = WORTH UNIT, or = octal, or = min sec; R2 and R3 too",
     }.items():
         judge(f"nouns {text!r}", (1, [], [f"agc-console: nouns {fault}"]), refused(KEYS, os.devnull, "--nouns", file_with("bad", text)))
     judge("no nouns", (1, [], ["agc-console: cannot read nouns"]), refused(KEYS, os.devnull, "--nouns", os.path.join(scratch, "none")))

@@ -36,8 +36,8 @@ WRONG = (
     ('# one\nword 16 monitor', 'line 2: unknown word word: verb or noun.'),
     ('verb 16 monitor\nverb 16 monitor', 'line 2: verb 16 has a line already.'),
     ('noun 16', 'line 1: noun 16 has no meaning.'),
-    ('noun 16 R1 mass 1 kg', 'line 1: each part of a noun is R1 NAME = WORTH UNIT, or R1 NAME = octal.'),
-    ('noun 16 RX mass = 1 kg', 'line 1: each part of a noun is R1 NAME = WORTH UNIT, or R1 NAME = octal.'),
+    ('noun 16 R1 mass 1 kg', 'line 1: each part of a noun is R1 NAME = WORTH UNIT, or = octal, or = min sec.'),
+    ('noun 16 RX mass = 1 kg', 'line 1: each part of a noun is R1 NAME = WORTH UNIT, or = octal, or = min sec.'),
     ('noun 16 R1 mass = 1 kg\nverb\nverb 1x a', 'line 2: a verb has two digits. 1 more.'),
 )
 """Files, and what is said of their first fault."""
@@ -55,6 +55,10 @@ def try_words_of_panel():
     window.value(f"setText(find('in-words-text'), {json.dumps(longest)}); undefined")
     judge('there is room for it at 1000 by 700', True, see(window, 'document.documentElement.scrollHeight <= innerHeight', True))
     judge('all of it is seen', True, window.value("find('in-words').getBoundingClientRect().bottom <= innerHeight"))
+    window.value("keepNouns({ nouns: 'noun 44 R3 time = min sec' }); undefined")
+    for signs, words in (('-12_05', '-12 min 5 s'), ('+00_59', '0 min 59 s'), ('+12005', '–'), ('+1__05', '–')):
+        panel = {**BLANK, 'VERB': '16', 'NOUN': '44', 'R3': signs}
+        judge(f'minutes and seconds: {signs}', f'V16 N44: time {words}', window.value(f'panelInWords({json.dumps(panel)})'))
     for text, why in WRONG:
         window.value(f'keepNouns({{ nouns: {json.dumps(text)} }}); undefined')
         judge(f'{text!r}', f'The file of nouns, {why}', window.value(FAULT))

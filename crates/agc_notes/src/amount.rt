@@ -11,14 +11,62 @@ pub(crate) struct Worth {
     pub(crate) places: u32,
 }
 
-/// The value of a register without a unit.
-pub(crate) const ONE: Worth = Worth {
+/// What kind of amount a register shows.
+#[derive(Clone, Copy, Debug, PartialEq, Eq)]
+pub(crate) enum Amount {
+    Number(Worth),
+    /// Two digits of minutes and two of seconds, with a blank between.
+    MinutesAndSeconds,
+}
+
+/// A register without a unit, whose last place is worth 1.
+pub(crate) const PLAIN: Amount = Amount::Number(Worth {
     factor: 1,
     places: 0,
-};
+});
 
-/// Appends what a register shows: sign and five digits, as `+00377`. Without a sign they are octal digits.
+/// Appends what a register shows: sign and five digits, as `+00377`, or `+12_05`.
 pub(crate) fn push_amount(
+    text: &mut String,
+    shown: &[u8],
+    amount: Amount,
+    unit: &str,
+) -> Result<(), AllocError> {
+    match amount {
+        Amount::Number(worth) => push_signed(text, shown, worth, unit),
+        Amount::MinutesAndSeconds => push_time(text, shown),
+    }
+}
+
+/// Appends minutes and seconds, as `12 min 5 s`.
+fn push_time(text: &mut String, shown: &[u8]) -> Result<(), AllocError> {
+    match shown {
+        [sign, tens, ones, b'_', seconds @ ..]
+            if are_digits(&[*tens, *ones]) && seconds.len() == 2 && are_digits(seconds) => {
+            if *sign == b'-' {
+                text.push_str("-")?;
+            }
+            let minutes = two_digits(&[*tens, *ones]);
+            let seconds = two_digits(seconds);
+            write!(text, "{minutes} min {seconds} s")
+        }
+        _ => text.push_str(NO_NUMBER),
+    }
+}
+
+/// Returns the number of two digits.
+fn two_digits(digits: &[u8]) -> u32 {
+    let mut number = 0u32;
+    for digit in digits {
+        number = number
+            .saturating_mul(10)
+            .saturating_add(u32::from(digit.saturating_sub(b'0')));
+    }
+    number
+}
+
+/// Appends a number with its unit. Without a sign the digits are octal.
+fn push_signed(
     text: &mut String,
     shown: &[u8],
     worth: Worth,

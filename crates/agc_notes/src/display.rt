@@ -85,7 +85,7 @@ fn push_separator(text: &mut String, is_first: bool) -> Result<(), AllocError> {
 fn push_part(text: &mut String, part: &Part, shown: &[u8]) -> Result<(), AllocError> {
     text.push_str(part.name.as_str())?;
     text.push_str(" ")?;
-    push_amount(text, shown, part.worth, part.unit.as_str())
+    push_amount(text, shown, part.amount, part.unit.as_str())
 }
 
 fn keep(kept: &mut Vec<u8>, shown: &[u8]) -> Result<(), AllocError> {

@@ -28,7 +28,7 @@ fn sentence_of(fault: NounFault) -> &'static str {
         NounFault::Again => "an earlier line has this verb or noun",
         NounFault::NoMeaning => "the verb or noun has no meaning",
         NounFault::BadPart =>
-            "each part of a noun is R1 NAME = WORTH UNIT, or R1 NAME = octal; R2 and R3 too",
+            "each part of a noun is R1 NAME = WORTH UNIT, or = octal, or = min sec; R2 and R3 too",
         NounFault::Memory => "memory",
     }
 }

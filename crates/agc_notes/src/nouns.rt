@@ -1,5 +1,5 @@
 //! Reads a file of verbs and nouns: what they are, and what the registers show.
-use crate::amount::{ONE, Worth, are_digits};
+use crate::amount::{Amount, PLAIN, Worth, are_digits};
 use crate::fault::{NotesFault, NounFault};
 use agc_word::{next_word, read_decimal, without_return};
 use std::alloc::{AllocError, Global};
@@ -23,7 +23,7 @@ pub(crate) struct Part {
     /// `1` to `3`.
     pub(crate) register: u8,
     pub(crate) name: String,
-    pub(crate) worth: Worth,
+    pub(crate) amount: Amount,
     pub(crate) unit: String,
 }
 
@@ -167,18 +167,18 @@ fn add<T: Drop>(list: &mut Vec<T>, value: T) -> Result<(), AllocError> {
     Ok(())
 }
 
-/// Reads a part of a noun: `R1 NAME = WORTH UNIT`, or `R1 NAME = octal`.
+/// Reads a part of a noun: `R1 NAME = WORTH UNIT`, or `= octal`, or `= min sec`.
 fn read_part(alloc: Global, text: &[u8]) -> Result<Part, NounFault> {
     let (register, text) = match text {
         [b'R', register, b' ', rest @ ..] if matches!(*register, b'1'..=b'3') => (*register, rest),
         _ => return Err(NounFault::BadPart),
     };
     for at in 1..text.len() {
-        if let Some((worth, unit)) = worth_behind(&text[at..]) {
+        if let Some((amount, unit)) = amount_behind(&text[at..]) {
             return Ok(Part {
                 register,
                 name: owned(alloc, &text[..at])?,
-                worth,
+                amount,
                 unit: owned(alloc, unit)?,
             });
         }
@@ -190,11 +190,13 @@ fn owned(alloc: Global, text: &[u8]) -> Result<String, AllocError> {
     String::from_str(alloc, str::from_utf8(text).unwrap_or("?"))
 }
 
-/// Returns the worth and the unit of a text ` = WORTH UNIT`, or ` = octal`.
-fn worth_behind(text: &[u8]) -> Option<(Worth, &[u8])> {
+/// Returns the amount and the unit of a text ` = WORTH UNIT`, ` = octal` or ` = min sec`.
+fn amount_behind(text: &[u8]) -> Option<(Amount, &[u8])> {
     let text = text.strip_prefix(b" = ")?;
-    if matches!(text, b"octal") {
-        return Some((ONE, &[]));
+    match text {
+        b"octal" => return Some((PLAIN, &[])),
+        b"min sec" => return Some((Amount::MinutesAndSeconds, &[])),
+        _ => {}
     }
     let (number, unit) = match text.iter().position(|byte| *byte == b' ') {
         Some(at) => (text.get(..at)?, text.get(at.checked_add(1)?..)?),
@@ -204,7 +206,7 @@ fn worth_behind(text: &[u8]) -> Option<(Worth, &[u8])> {
     if !is_unit || (unit.is_empty() && number.len() != text.len()) {
         return None;
     }
-    Some((worth_of(number)?, unit))
+    Some((Amount::Number(worth_of(number)?), unit))
 }
 
 /// Returns the worth that a decimal is.

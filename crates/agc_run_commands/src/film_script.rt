@@ -8,7 +8,7 @@ pub const WORDS: &str = "<style>
 (() => {
 'use strict';
 
-const PART = /^(R[123]) (.+?) = (octal|(\\d{1,9})(?:\\.(\\d{1,9}))?(?: (\\S{1,16}))?)$/;
+const PART = /^(R[123]) (.+?) = (octal|min sec|(\\d{1,9})(?:\\.(\\d{1,9}))?(?: (\\S{1,16}))?)$/;
 
 const nouns = { verbs: new Map(), nouns: new Map() };
 
@@ -29,13 +29,17 @@ function faultOf(found, kind, number, rest) {
   if (found[`${kind}s`].has(number)) return `${kind} ${number} has a line already`;
   if (!rest) return `${kind} ${number} has no meaning`;
   const parts = kind === 'noun' ? rest.split(/, ?/).map((part) => part.match(PART)) : [];
-  if (parts.includes(null)) return 'each part of a noun is R1 NAME = WORTH UNIT, or R1 NAME = octal';
+  if (parts.includes(null)) return 'each part of a noun is R1 NAME = WORTH UNIT, or = octal, or = min sec';
   found[`${kind}s`].set(number, kind === 'verb' ? rest : parts.map(([, register, name, worth, whole, part = '', unit = '']) => (
-    { register, name, factor: BigInt(worth === 'octal' ? 1 : whole + part), places: part.length, unit })));
+    { register, name, isTime: worth === 'min sec', factor: BigInt(whole === undefined ? 1 : whole + part), places: part.length, unit })));
   return '';
 }
 
-function amountShown(signs, { factor, places, unit }) {
+function amountShown(signs, { isTime, factor, places, unit }) {
+  if (isTime) {
+    const [, before, minutes, seconds] = signs.match(/^([+_-])(\\d\\d)_(\\d\\d)$/) || [];
+    return seconds === undefined ? '\u{2013}' : `${before === '-' ? '-' : ''}${Number(minutes)} min ${Number(seconds)} s`;
+  }
   const [, sign, digits] = signs.match(/^([+_-])(\\d{5})$/) || [];
   if (digits === undefined || (sign === '_' && /[89]/.test(digits))) return '\u{2013}';
   if (sign === '_') return `${digits} octal`;

@@ -2,7 +2,7 @@
 // The display in words, below the DSKY: "V06 N60: decimal: forward speed 55.0 m/s, ..". A file says what verbs and nouns are, in the form
 // of docs/WEB.md. Without one nothing is said.
 
-const PART = /^(R[123]) (.+?) = (octal|(\d{1,9})(?:\.(\d{1,9}))?(?: (\S{1,16}))?)$/;
+const PART = /^(R[123]) (.+?) = (octal|min sec|(\d{1,9})(?:\.(\d{1,9}))?(?: (\S{1,16}))?)$/;
 
 const nouns = { verbs: new Map(), nouns: new Map() };
 
@@ -25,14 +25,19 @@ function faultOf(found, kind, number, rest) {
   if (found[`${kind}s`].has(number)) return `${kind} ${number} has a line already`;
   if (!rest) return `${kind} ${number} has no meaning`;
   const parts = kind === 'noun' ? rest.split(/, ?/).map((part) => part.match(PART)) : [];
-  if (parts.includes(null)) return 'each part of a noun is R1 NAME = WORTH UNIT, or R1 NAME = octal';
+  if (parts.includes(null)) return 'each part of a noun is R1 NAME = WORTH UNIT, or = octal, or = min sec';
   found[`${kind}s`].set(number, kind === 'verb' ? rest : parts.map(([, register, name, worth, whole, part = '', unit = '']) => (
-    { register, name, factor: BigInt(worth === 'octal' ? 1 : whole + part), places: part.length, unit })));
+    { register, name, isTime: worth === 'min sec', factor: BigInt(whole === undefined ? 1 : whole + part), places: part.length, unit })));
   return '';
 }
 
-// Returns what a register's signs say, as "+00550": a number with its unit, octal digits, or "–" for blank and unknown digits.
-function amountShown(signs, { factor, places, unit }) {
+// Returns what a register's signs say, as "+00550": a number with its unit, octal digits, minutes and seconds, or "–" for blank and unknown
+// digits.
+function amountShown(signs, { isTime, factor, places, unit }) {
+  if (isTime) {
+    const [, before, minutes, seconds] = signs.match(/^([+_-])(\d\d)_(\d\d)$/) || [];
+    return seconds === undefined ? '–' : `${before === '-' ? '-' : ''}${Number(minutes)} min ${Number(seconds)} s`;
+  }
   const [, sign, digits] = signs.match(/^([+_-])(\d{5})$/) || [];
   if (digits === undefined || (sign === '_' && /[89]/.test(digits))) return '–';
   if (sign === '_') return `${digits} octal`;
