@@ -20,11 +20,18 @@ command_not_found_handle() { echo "$judge: there is no command $1" >&2 && kill "
 # cannot_run WHY: ends the judge, because it cannot run here
 cannot_run() { echo "$judge: $*" && exit 77; }
 
-# has NAME: succeeds if this machine has a command, a file, a browser, or a module of Python. BROWSER is the path of the browser, and
-# PYTHON that of a Python with the module.
+# has NAME: succeeds if this machine has a command, a file, a browser, or a module of Python. PYTHON is the path of a Python with the
+# module, and CHROMIUM that of the browser. BROWSER is the path of Debian's headless shell, the same browser without windows, which
+# opens a page for a third of the processor time. Without it, and for figures and pictures of the documents, it is CHROMIUM.
 has() {
     case $1 in
-    browser) BROWSER=$(command -v chromium || command -v chromium-browser || command -v google-chrome) && export BROWSER ;;
+    browser)
+        CHROMIUM=$(command -v chromium || command -v chromium-browser || command -v google-chrome) || return
+        # The command of that name starts this program and stays beside it, so that the program would not end with the command.
+        BROWSER=/usr/lib/chromium/chromium-headless-shell
+        [ -x "$BROWSER" ] && [ -z "${FIGURES:-}${PICTURES:-}" ] || BROWSER=$CHROMIUM
+        export CHROMIUM BROWSER
+        ;;
     ensurepip | distributed | matplotlib | pandas)
         for PYTHON in python3 /usr/bin/python3; do
             ! command -v "$PYTHON" >/dev/null || ! "$PYTHON" -c "import $1" 2>/dev/null || return 0

