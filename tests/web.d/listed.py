@@ -304,32 +304,58 @@ def try_unreadable(folder, rope):
     judge('and said', f'agc-web: {rope[:-4]}listing is left out: it has more than 16777216 bytes\n', site.end()[2])
 
 
-def try_alarm():
-    """From the lamp of an alarm one click leads to the alarm's routine as a line, and one more to the call that found no VAC area."""
+def alarmed(text):
+    """Flies the landing with a script until PROG lights, in the page with its source. Returns the folder of the source, site and window."""
     folder = woven('descent', 'descent.agc')
     for name in ('names', 'watch'):
         shutil.copyfile(example('descent', name), os.path.join(folder, name))
-    script = os.path.join(folder, 'vac')
+    script = os.path.join(folder, 'faulty')
     with open(script, 'w', encoding='ascii') as file:
-        file.write(full_script())
+        file.write(text)
     site = Site([sys.executable, '-B', example('descent', 'craft.py'), '--web', '--port', '0', '--script', script, '--rope', os.path.join(folder, 'rope')])
     window = opened(site)
     site.do('speed', times=10)
     site.do('play')
     judge('an alarm', True, wait(lambda: window.value("isLit('PROG')"), 300))
+    return folder, site, window
+
+
+def follow_alarm(folder, site, window, reason, routine):
+    """One click leads from the lamp of an alarm to its routine as a line, and one more to the call that found no room. Returns the cycle of
+    the first line."""
     click(window, 'Its line', '#alarm button')
     lines, _ = read(folder)
     judge('a line of BAILOUT', 'BAILOUT', line_lit(window, lines, 'BAILOUT'))
     cycle = window.value('now.cycle')
     before = traced(folder, site.script(), [cycle])
     judge('where the trace is there', 'BAILOUT', text_at(folder, lines, before[cycle]))
-    judge('the reason', 'Alarm 1201: no VAC area was free. ', window.value("document.getElementById('listing-cause').firstChild.textContent"))
+    judge('the reason', reason, window.value("document.getElementById('listing-cause').firstChild.textContent"))
     click(window, 'The call that found none', '#listing-cause button')
     judge('earlier', True, wait(lambda: window.value('now.cycle') < cycle))
     call = window.value('now.cycle')
     place = traced(folder, site.script(), [call])[call]
     number = read(folder)[1][physical(place)]
-    judge('the line of the call', (['TC', 'FINDVAC'], [number]), (lines[number][2].split('#')[0].split()[-2:], see(window, LIT, [number])))
+    judge('the line of the call', (['TC', routine], [number]), (lines[number][2].split('#')[0].split()[-2:], see(window, LIT, [number])))
+    return cycle
+
+
+def try_no_core_set():
+    """A key is pressed while all core sets are taken: the call that found none is a NOVAC of the keyboard's interrupt."""
+    with open(example('descent', 'script'), encoding='ascii') as file:
+        keys = [line for line in file if ' key ' in line or ' pro ' in line]
+    taken = [f'512000 poke 0 {0o200 + 12 * set_number + 11:o} 1\n' for set_number in range(8)]
+    folder, site, window = alarmed(''.join([*keys, *taken, '512010 key VERB\n']))
+    follow_alarm(folder, site, window, 'Alarm 1202: no core set was free. ', 'NOVAC')
+    judge('errors of the page', [], window.errors())
+    window.close()
+    site.end()
+
+
+def try_alarm():
+    """From the lamp of an alarm to the call that found no VAC area; undo leads back."""
+    folder, site, window = alarmed(full_script())
+    cycle = follow_alarm(folder, site, window, 'Alarm 1201: no VAC area was free. ', 'FINDVAC')
+    lines, _ = read(folder)
     site.do('undo')
     site.do('undo')
     wait(lambda: window.value("isLit('PROG')"))
@@ -351,4 +377,4 @@ def text_at(folder, lines, place):
     return lines[read(folder)[1][physical(place)]][2].split()[0]
 
 
-TRIES = (try_lit, try_banks, try_refused, try_alarm)
+TRIES = (try_lit, try_banks, try_refused, try_no_core_set, try_alarm)
