@@ -229,6 +229,7 @@ def try_link():
         ('no object', packed(7), 'it is no session.'), ('null', packed(None), 'it is no session.'),
         ('another version', packed({**good, 'format': 2}), 'it is of another version of this page.'),
         ('another rope of the example', packed({**good, 'sum': 1}), 'it is of another version of this page.'),
+        ('the sum of no example', packed({**good, 'example': None, 'rope': 'AAAA', 'sum': 1}), 'it has the sum of an example, and names none.'),
         ('a command as event', packed({**good, 'events': ['1 save x']}), 'its part events is not as it has to be.'),
         ('a wrong tables SPEC', packed({**good, 'watch': '0\nquit'}), 'its part watch is not as it has to be.'),
         ('no rope', packed({**good, 'example': None}), 'it has no rope.'),

@@ -68,7 +68,9 @@ async function readLink(hash) {
   }
   const found = readSession(text);
   const { sum, chosen } = JSON.parse(text);
-  if (sum !== undefined && sum !== sumOf(EXAMPLES[found.files.example].rope)) throw new Error('it is of another version of this page');
+  if (sum === undefined) return { ...found, chosen };
+  if (!found.files.example) throw new Error('it has the sum of an example, and names none');
+  if (sum !== sumOf(EXAMPLES[found.files.example].rope)) throw new Error('it is of another version of this page');
   return { ...found, chosen };
 }
 
