@@ -2,6 +2,7 @@
 import base64
 import json
 import os
+import time
 import zlib
 
 from agc import Console
@@ -128,7 +129,8 @@ def try_kept():
     page.window.ask('Page.addScriptToEvaluateOnNewDocument', source=NOTES)
     page.reload()
     coming = 'The session that this browser keeps is coming back. A long one takes some seconds.'
-    judge('the page says that it comes back, until it is there', [coming, ''], page.value('notes'))
+    notes = page.value('notes')
+    judge('the page says that it comes back, until it is there', [coming, ''], [notes[0], notes[-1]])
     time = page.site.state()['time']
     judge('after a reload', before, [page.site.script(), page.cycle(), page.site.state()['panel']])
     judge('speed and breakpoints too', (10, ['write 11'], False), (time['speed'], page.site.state()['breakpoints'], time['playing']))
@@ -231,6 +233,7 @@ def try_link():
         ('another rope of the example', packed({**good, 'sum': 1}), 'it is of another version of this page.'),
         ('the sum of no example', packed({**good, 'example': None, 'rope': 'AAAA', 'sum': 1}), 'it has the sum of an example, and names none.'),
         ('a command as event', packed({**good, 'events': ['1 save x']}), 'its part events is not as it has to be.'),
+        ('too far', packed({**good, 'cycle': 10 ** 13}), 'its part cycle is not as it has to be.'),
         ('a wrong tables SPEC', packed({**good, 'watch': '0\nquit'}), 'its part watch is not as it has to be.'),
         ('no rope', packed({**good, 'example': None}), 'it has no rope.'),
     ]
@@ -271,6 +274,82 @@ def try_linked_guide(page):
         page.site.open('waitlist')
         page.open_file(link[link.index('#'):])
         judge(f'{guide}: the link keeps it', seen, page.value('[session.files.guide, guiding.guide?.title, session.files.script]'))
+
+
+# A session of this many cycles takes hours to run again, in pieces, with an event on its way and one that never comes.
+FAR = {'cycle': 10 ** 12, 'events': ['1000 key 5', '999999999000 key 6'], 'controls': [], 'speed': 1, 'breakpoints': []}
+STOP = "find('notice-stop')?.hidden ?? true ? null : find('notice-text').textContent.replace(/second [0-9,]+ /, 'second N ')"
+AGAIN = 'The session is run again up to where it stood: second N of 11,718,750.'
+
+
+def try_far():
+    """A link and a kept session that stand very far: the page says how far it is, draws and takes clicks, and a button lets the
+    session stand where it is. The whole one is lost neither in the link nor in the browser."""
+    page = started()
+    page.site.open('lander')
+    kept = page.value('keptText()')
+    writes, lander = os.path.join(TOP, 'benches', 'writes.rope'), example('lander', 'rope')
+    with open(writes, 'rb') as file:
+        flood = base64.b64encode(file.read()).decode()
+    cases = (('writes', writes, {'rope': flood, 'title': 'writes'}), ('a craft', lander, {'example': 'lander', 'title': 'craft'}))
+    for what, rope, more in cases:
+        code = packed({'format': 1, **FAR, **more})
+        load(page, f'#session={code}')
+        stop_there(page, f'a link of {what}')
+        judge(f'a link of {what}: what is said', 'You stopped this session on its way to second 11,718,750 of its machine time. It came with the link. '
+              'A reload opens it anew: download its script to keep what you change.', page.notice())
+        judge(f'a link of {what}: it is shown', more['title'], page.text('rope'))
+        judge(f'a link of {what}: the browser keeps what it kept', kept, page.value('keptText()'))
+        go_on(page, f'a link of {what}', rope)
+    files = page.value('JSON.stringify(storedFiles(session.files))')
+    rest = json.dumps({'format': 1, **FAR, 'options': None})
+    page.value(f'localStorage.setItem(FILES, {json.dumps(files)}); localStorage.setItem(REST, {json.dumps(rest)})')
+    kept = page.value('keptText()')
+    load(page)
+    stop_there(page, 'a kept session')
+    judge('a kept session: what is said', 'You stopped this session on its way to second 11,718,750 of its machine time. This browser keeps the whole '
+          'one, and a reload opens it: download the script to keep what you change here.', page.notice())
+    go_on(page, 'a kept session', rope)
+    judge('the whole one is still there', kept, page.value('keepNow() ?? keptText()'))
+    try_other_instead(page)
+    page.close()
+
+
+def load(page, hash=''):
+    """Opens agc.html anew, with a session that takes long."""
+    page.window.load('about:blank')
+    page.window.load(f'file://{FILE}{hash}')
+
+
+def stop_there(page, what):
+    """Lets the session stand that is run again."""
+    judge(f'{what}: how far it is', AGAIN, page.see(STOP, AGAIN))
+    judge(f'{what}: the DSKY is drawn', True, page.value("document.querySelector('#face .dsky') !== null"))
+    page.click('#notice-stop')
+    judge(f'{what}: it stands', 'paused', page.state('paused'))
+    judge(f'{what}: on its way', True, 1000 < page.cycle() < 10 ** 12)
+    judge(f'{what}: the script has what came', ['key 5'], keys_in(page.site.script()))
+    judge(f'{what}: nothing more is to be stopped', True, page.value("find('notice-stop').hidden"))
+
+
+def go_on(page, what, rope):
+    """Goes on with a session that was stopped on its way, and compares its panel with that of agc's run of its script."""
+    page.site.do('key', name='7')
+    page.site.do('step')
+    judge(f'{what}: it goes on', ['key 5', 'key 7'], keys_in(page.site.script())[:2])
+    lines = web.agc_panel(rope, page.site.script(), page.cycle())[2]
+    judge(f'{what}: the panel is that of agc', lines, [f'{name} {text}' for name, text in page.site.state()['panel'].items()])
+
+
+def try_other_instead(page):
+    """A session that is opened while another one is still coming takes its place, and the other one is put aside."""
+    load(page)
+    judge('it comes', AGAIN, page.see(STOP, AGAIN))
+    page.value("openExample('waitlist'); undefined")
+    judge('another one is shown', 'Waitlist', page.see("document.getElementById('rope').textContent", 'Waitlist'))
+    time.sleep(2)
+    judge('it stays', ('Waitlist', True), (page.text('rope'), page.value("find('notice-stop').hidden")))
+    judge('the first one is put aside', '1000 key 5\n999999999000 key 6\n', page.value('scriptIn(keptAside())'))
 
 
 def try_policy():
@@ -349,4 +428,4 @@ def film_tab(page):
     return next((each for each in found if each['url'].startswith('blob:') and 'limit' in each['title']), None)
 
 
-TRIES = (try_files, try_kept, try_link, try_policy, try_film, try_flown_film)
+TRIES = (try_files, try_kept, try_link, try_far, try_policy, try_film, try_flown_film)

@@ -6,6 +6,7 @@ Object.values(EXAMPLES).forEach((each) => { each.rope = base64In(each.rope); });
 const FIRST = 'verbs';
 const OFFERED = [['descent', ''], ['descent', 'Land with alarm 1202'], ['count-1', '']]; // by the strip: an example, and a guide that is not its first
 const LARGEST_FILE = 4e6; // bytes
+const SAID_EVERY = 500; // milliseconds between two sentences on how far a session has come
 const SHOWN_ALONE = ['quantities', 'nouns'];
 // What each line of a file begins with, by its kind.
 const LINE_OF = {
@@ -14,11 +15,29 @@ const LINE_OF = {
   nouns: /^\s*(#|(verb|noun) \d\d\s|$)/,
 };
 
-// Shows a sentence to the user, above the page, until it is closed.
-function say(text) {
+// Shows a sentence to the user, above the page, until it is closed. `stop` ends what it says, by a button.
+function say(text, stop = null) {
   setText(find('notice-text'), text);
   find('notice').hidden = !text;
+  find('notice-stop').hidden = !stop;
+  find('notice-stop').onclick = stop;
 }
+
+// Machine time in whole seconds.
+const secondsOf = (cycle) => grouped(Math.floor(cycle / CYCLES_A_SECOND));
+
+// Returns what says now and then how far a session has come that is run once more, and offers to let it stand there.
+function progressTo(end, stop) {
+  let said = performance.now();
+  return (cycle) => {
+    if (performance.now() - said < SAID_EVERY) return;
+    said = performance.now();
+    say(`The session is run again up to where it stood: second ${secondsOf(cycle)} of ${secondsOf(end)}.`, stop);
+  };
+}
+
+// What is said of a session that the user has stopped on its way to where it stood.
+const stoppedAt = (end) => `You stopped this session on its way to second ${secondsOf(end)} of its machine time.`;
 
 const sentence = (text) => text.replace(/\.?$/, '.');
 
@@ -47,19 +66,21 @@ async function openFirst() {
   }
   const isLinked = location.hash.startsWith(MARK) && await openLink();
   const refused = isLinked ? '' : find('notice-text').textContent; // the session in the link's place takes the sentence away
-  if (!isLinked && !await openKept()) await openExample(FIRST);
+  if (!isLinked && !session.isBegun && !await openKept()) await openExample(FIRST);
   if (refused) say(`${refused} ${find('notice-text').textContent}`.trim());
   openLinkedSource();
 }
 
 // Opens the session of the link; returns whether it did.
 async function openLink() {
+  say('The session of the link is coming. A long one takes some seconds.');
   try {
     const { files, kept, chosen } = await readLink(location.hash);
     if (!await openAndSay(files, kept, 'The session of the link cannot be opened: ')) return false;
     beginGuideNamed(chosen);
     keeping.is = false;
-    say('This session came with the link. A reload opens it anew: download its script to keep what you change.');
+    const about = session.isWhole ? 'This session came with the link.' : `${stoppedAt(kept.cycle)} It came with the link.`;
+    say(`${about} A reload opens it anew: download its script to keep what you change.`);
     return true;
   } catch (error) {
     say(`The session of the link cannot be opened: ${sentence(error.message)}`);
@@ -67,23 +88,30 @@ async function openLink() {
   }
 }
 
-// Opens the session that this browser keeps; returns whether it did. One that cannot be opened is put aside.
+// Opens the session that this browser keeps; returns whether it did. One that cannot be opened is put aside. One that the user stops on
+// its way stays as it was kept.
 async function openKept() {
   const text = keptText();
   if (text === null) return false;
-  let why;
+  let [why, end] = ['', 0];
   say('The session that this browser keeps is coming back. A long one takes some seconds.');
   try {
     const { files, kept } = readSession(text);
+    end = kept.cycle;
     why = await session.open({ ...files, listing: keptListing() }, kept);
   } catch (error) {
     why = error.message;
   }
-  if (!why) {
+  if (!why && session.isWhole) {
     beginToKeep();
     return true;
   }
+  if (!why) {
+    say(`${stoppedAt(end)} This browser keeps the whole one, and a reload opens it: download the script to keep what you change here.`);
+    return true;
+  }
   putAside(text);
+  if (session.isBegun) return true;
   await openExample(FIRST);
   say(`The session that this browser kept cannot be opened: ${sentence(why)} Its script can be downloaded under Open.`);
   return true;
@@ -140,13 +168,14 @@ function showWith(files) {
   session.files = files;
   showNews({ about: { ...shown.about, ...Object.fromEntries(SHOWN_ALONE.map((kind) => [kind, files[kind]])) } });
   if (find(`${tab}-tab`)) showTab(tab);
-  beginToKeep();
+  if (session.isWhole) beginToKeep();
 }
 
 // the dialog
 
 function buildOpening() {
-  const notice = make('p', { id: 'notice', role: 'status', hidden: '' }, make('span', { id: 'notice-text' }), ' ', button('✕', () => say(''), { 'aria-label': 'Close this note' }));
+  const notice = make('p', { id: 'notice', role: 'status', hidden: '' }, make('span', { id: 'notice-text' }), ' ',
+    button('Stop here', () => {}, { id: 'notice-stop', hidden: '' }), button('✕', () => say(''), { 'aria-label': 'Close this note' }));
   find('trouble').before(notice);
   find('help-button').before(button('Open …', () => showOpening(), { id: 'open-button', 'aria-haspopup': 'dialog' }));
   document.body.append(openingDialog());

@@ -34,9 +34,12 @@ class Engine {
   #waiting = [];
   #news = (news) => this.#waiting.push(news);
   #lost;
+  #came;
 
-  constructor(lost) {
+  // `lost` is called if the worker fails; `came` with the cycle to which a session has come that is run once more.
+  constructor(lost, came = () => {}) {
     this.#lost = lost;
+    this.#came = came;
     const address = URL.createObjectURL(new Blob([dataOf('worker')], { type: 'text/javascript' }));
     this.#worker = new Worker(address);
     this.#worker.onmessage = ({ data }) => this.#take(data);
@@ -54,12 +57,21 @@ class Engine {
     this.#news = news;
   }
 
-  close() {
-    this.#worker.terminate();
-    for (const done of this.#calls.values()) done({ status: 409, error: '' }); // nobody waits for an answer that never comes
+  // Lets a session that is run once more stand where it is.
+  stop() {
+    this.#worker.postMessage({ stop: true });
   }
 
-  #take({ id, answer, news }) {
+  close(why = '') {
+    this.#worker.terminate();
+    for (const done of this.#calls.values()) done({ status: 409, error: why }); // nobody waits for an answer that never comes
+  }
+
+  #take({ id, answer, news, came }) {
+    if (came !== undefined) {
+      this.#came(came);
+      return;
+    }
     if (!news) {
       this.#calls.get(id)(answer);
       this.#calls.delete(id);
@@ -88,6 +100,7 @@ class Engine {
 }
 
 let engine = null;
+let coming = null; // the engine of the session that is being opened
 let page = null; // what listens
 let begin; // the first session is there
 const hasBegun = new Promise((done) => { begin = done; });
@@ -115,10 +128,20 @@ const session = {
   scriptAddress: '#script',
   filmAddress: '#film',
 
-  // Opens a rope, with what was kept of a session of it. Returns why that is refused, or nothing: then its session is the page's.
+  // Whether a session is there, or is being opened.
+  get isBegun() {
+    return Boolean(engine ?? coming);
+  },
+
+  // Opens a rope, with what was kept of a session of it. Returns why that is refused, or nothing: then its session is the page's, and
+  // isWhole says whether it came to where it was kept. What is being opened already gives way.
   async open(files, kept = null) {
-    const opened = new Engine(() => page.reached(false));
-    const answer = await opened.call('open', { ...files, names: files.names ?? namesIn(files.listing), listing: hasListing(files), module: await unpacked('console'), kept });
+    const module = await unpacked('console');
+    const opened = new Engine(() => page.reached(false), progressTo(kept?.cycle, () => opened.stop()));
+    coming?.close('another session was opened in its place');
+    coming = opened;
+    const answer = await opened.call('open', { ...files, names: files.names ?? namesIn(files.listing), listing: hasListing(files), module, kept });
+    if (coming === opened) coming = null;
     if (answer.status !== 200) {
       opened.close();
       return answer.error;
@@ -129,6 +152,7 @@ const session = {
     }
     engine = opened;
     session.files = files;
+    session.isWhole = answer.isWhole;
     begin();
     page.reached(true);
     engine.listen((news) => {

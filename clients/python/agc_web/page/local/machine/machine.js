@@ -19,6 +19,8 @@ const FAST = 100;
 const ECHO = 0.1; // seconds after a key in which each piece of the clock's work is shown, so that the lamp lights soon
 const AT_ONCE = 500; // events that the console gets in one text
 const LONGEST_STEP = 1000000; // cycles that `over` and `finish` may take
+const PIECE = 0.1; // seconds that a piece of a session that is run once more should take
+const [LEAST_PIECE, MOST_PIECE] = [1000, 1e7]; // its cycles: more than from tick to tick, and few enough for a slow processor
 const FULL = 'Time stops: the script is full, with 65,536 events. Going back makes room.';
 
 // Whether the user gave an event. That PRO came up is none: if its going down stays, going back lets it come up.
@@ -115,36 +117,52 @@ export class Machine {
   pastViews = () => this.call(() => (this.#ticker.isEmpty ? [] : this.#ticker.pastViews(this.#console.cycle)));
 
   // Runs a session once more that was kept: its events, and the controls of instruments, up to a cycle. Throws if they do not
-  // fit this rope.
-  resume({ cycle, events, controls, speed, breakpoints }) {
+  // fit this rope. `goesOn` is called with the cycle between pieces of the run, and gives a promise whether it goes on; if not, the session
+  // stands there, without the events that come later. Returns whether the session came to its end.
+  resume({ cycle, events, controls, speed, breakpoints }, goesOn) {
     return this.call(async () => {
-      await this.#journal.replay(() => this.#runAgain(events, controls, cycle));
-      if (events.some((event, i) => event.cycle !== this.#journal.events[i].cycle)) throw new Unable('its events do not fit this rope');
+      const given = await this.#journal.replay(() => this.#runAgain(events, controls, cycle, goesOn));
+      if (events.slice(0, given).some((event, i) => event.cycle !== this.#journal.events[i].cycle)) throw new Unable('its events do not fit this rope');
       this.furthest = this.#console.cycle;
       await this.#rewinder.goTo(this.#console.cycle, this.#journal.events);
       this.#keyboard.find(this.#journal.events);
       for (const text of breakpoints) await this.#breakpoints.add(text);
       if (SPEEDS.includes(speed)) this.#clock.speed = speed;
+      return given === events.length && (this.#console.cycle >= cycle || this.#console.stop !== null);
     });
   }
 
-  async #runAgain(events, controls, cycle) {
-    let next = 0;
-    const giveUpTo = async (end) => {
+  // Returns how many of the events were given: all, unless the run was broken off.
+  async #runAgain(events, controls, cycle, goesOn) {
+    const [console, ticker] = [this.#console, this.#ticker];
+    const end = events.reduce((last, event) => Math.max(last, event.cycle), cycle);
+    let [next, piece, began] = [0, LEAST_PIECE, seconds()];
+    const giveUpTo = async (before) => {
       const first = next;
-      while (next < events.length && events[next].cycle < end) next += 1;
+      while (next < events.length && events[next].cycle < before) next += 1;
       await this.#replayEvents(events.slice(first, next));
     };
-    for (let due = this.#ticker.nextCycles()[0]; due !== undefined && due < cycle; [due] = this.#ticker.nextCycles()) {
-      await giveUpTo(due);
-      await this.#console.goTo(due);
-      if (this.#console.stop !== null) break;
-      this.#ticker.controlAgain(controls);
-      await this.#ticker.tickDue(this.#console); // the machine has the events
+    while (console.cycle < end && console.stop === null) {
+      const tick = ticker.nextCycle < cycle ? ticker.nextCycle : Infinity;
+      const target = Math.min(tick, end, console.cycle + piece);
+      await giveUpTo(target);
+      await console.goTo(target);
+      if (console.stop !== null) break;
+      if (seconds() - began < PIECE) {
+        piece = Math.min(MOST_PIECE, 2 * piece);
+      } else if (console.cycle < end) {
+        if (!await goesOn(console.cycle)) return next;
+        piece = Math.max(LEAST_PIECE, piece >> 2);
+        began = seconds();
+      }
+      if (console.cycle >= tick) {
+        ticker.controlAgain(controls);
+        await ticker.tickDue(console); // the machine has the events
+      }
     }
-    this.#ticker.controlAgain(controls);
+    ticker.controlAgain(controls);
     await giveUpTo(Infinity);
-    await this.#console.goTo(cycle);
+    return next;
   }
 
   // the clock's work

@@ -1,7 +1,8 @@
 // The worker of the page: one machine, its news, and answers to the page's calls.
 //
 // The page posts {id, call, body} and gets {id, answer}; news come as {news: {part: value}}, only the parts that have changed. The page
-// posts {taken: true} once it has shown news; until then what is new is gathered, so that a slow page never falls behind.
+// posts {taken: true} once it has shown news; until then what is new is gathered, so that a slow page never falls behind. While a session
+// that was kept is run once more, {came: cycle} says how far it is, and the page may post {stop: true}, so that it stands there.
 // The first call is `open`, or `film`, which needs no machine.
 import { doCommand } from './commands.js';
 import { Console } from './console.js';
@@ -14,6 +15,7 @@ import { Searcher } from './searcher.js';
 let machine = null;
 let fresh = {}; // parts that have changed and were not posted yet
 let isTaken = true; // whether the page has shown the news posted last
+let isStopped = false; // whether the page wants no more of the session that is run once more
 let isPosting = false; // whether news are posted once the present task waits
 const shown = new Map(); // each part as it was posted last
 
@@ -60,17 +62,24 @@ async function start(module, files) {
   return { console, names, watch, notes };
 }
 
+// Says how far the session has come that is run once more, and lets messages of the page in. Returns whether it goes on.
+async function goesOn(cycle) {
+  postMessage({ came: cycle });
+  await new Promise((done) => { setTimeout(done); });
+  return !isStopped;
+}
+
 // Opens a session: {module, title, rope, script, names, form, watch, guide, quantities, nouns, listing, instrument, options, kept}; `listing`
-// is whether the page has one. Returns what is to be said.
+// is whether the page has one. Returns what is to be said, and whether the session came to where it stood when it was kept.
 async function open({ module, title, guide, quantities, nouns, listing, instrument, options, kept, ...files }) {
   const { console, names, watch, notes } = await start(module, files);
   const searcher = new Searcher((script) => Console.start(module, { ...files, names, script }));
   const base = (await console.say('script')).lines;
   machine = new Machine(console, { base, watch, instruments: makeInstruments(instrument, options), news: publish, searcher });
-  if (kept) await machine.resume(kept);
+  const isWhole = !kept || await machine.resume(kept, goesOn);
   publish('about', { rope: title, names, watch, guide, quantities, nouns, listing });
   await machine.look();
-  return { notes };
+  return { notes, isWhole };
 }
 
 const CALLS = {
@@ -92,7 +101,11 @@ async function answerTo(call, body) {
   }
 }
 
-onmessage = async ({ data: { id, call, body, taken } }) => {
+onmessage = async ({ data: { id, call, body, taken, stop } }) => {
+  if (stop) {
+    isStopped = true;
+    return;
+  }
   if (taken) {
     isTaken = true;
     post();
