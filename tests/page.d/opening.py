@@ -420,6 +420,36 @@ def try_flown_film():
     page.close()
 
 
+def try_film_in_words():
+    """With a file of verbs and nouns the film has the display in words. Markup in the file is a text."""
+    nouns = f'verb 88 lamp test {MARKUP}\r\nnoun 88 R1 length \\ λ = 0.001 m\n'
+    page = LocalPage(LocalSite(example('verbs', 'rope')))
+    page.site.open('verbs', nouns=nouns)
+    page.site.do('play')
+    page.type('v', '3', '5', 'Enter')
+    judge('all is lit', '+88888', page.see('shown.panel.R3', '+88888'))
+    page.pause()
+    text = page.value('session.film()')
+    words = [os.path.join(TOP, 'agc-study'), 'film', example('verbs', 'rope'), file_of('filmed', page.site.script().encode()),
+             '--nouns', file_of('nouns', nouns.encode()), '--limit', page.text('limit')]
+    made = web.subprocess.run(words, capture_output=True, text=True, check=True).stdout
+    files = [film[film.index('<script type="text/plain" id="nouns">'):].partition('</script>')[0] for film in (made, text)]
+    judge('the file is there as agc-study puts it', files[0], files[1])
+    page.click('#script-tab')
+    page.click('#film')
+    judge('the film has a tab', True, wait(lambda: film_tab(page) is not None, 120))
+    usual, page.window.session = page.window.session, None
+    page.window.session = page.window.ask('Target.attachToTarget', targetId=film_tab(page)['targetId'], flatten=True)['sessionId']
+    page.see("document.getElementById('left-words') !== null", True)
+    page.value("document.getElementById('end').click(); undefined")
+    said = f'V88 N88: lamp test {MARKUP}: length \\ λ 88.888 m'
+    judge('what the film says', [said, 0], page.see("[document.getElementById('left-words').textContent, window.ran ?? 0]", [said, 0]))
+    page.window.session = usual
+    page.site.open('verbs')
+    judge('without a file there are no words', False, 'id="nouns"' in page.value('session.film()'))
+    page.close()
+
+
 def film_tab(page):
     """Returns the tab with a film, if it has run its script."""
     usual, page.window.session = page.window.session, None
@@ -428,4 +458,4 @@ def film_tab(page):
     return next((each for each in found if each['url'].startswith('blob:') and 'limit' in each['title']), None)
 
 
-TRIES = (try_files, try_kept, try_link, try_far, try_policy, try_film, try_flown_film)
+TRIES = (try_files, try_kept, try_link, try_far, try_policy, try_film, try_film_in_words, try_flown_film)

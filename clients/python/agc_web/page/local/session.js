@@ -171,9 +171,10 @@ const session = {
     const answer = await maker.call('film', { ...session.files, module: await unpacked('console'), script, limit });
     maker.close();
     if (answer.status !== 200) throw new Error(answer.error);
-    const [head, tail, viewer] = JSON.parse(dataOf('film-page'));
+    const [head, tail, viewer, inWords] = JSON.parse(dataOf('film-page'));
     const lines = views.map(([cycle, line]) => `${cycle} ${line.replaceAll('<', '\\u003c')}\n`).join('');
-    const more = lines && `<script type="text/plain" id="left-view">\n${lines}<\/script>\n${viewer}`;
+    const block = (id, text) => `<script type="text/plain" id="${id}">\n${text}<\/script>\n`;
+    const more = (lines && block('left-view', lines) + viewer) + (answer.nouns && block('nouns', answer.nouns) + inWords);
     return head + answer.film + tail.replace('</body>', () => `${more}</body>`);
   },
 

@@ -5,11 +5,14 @@ const BLOCK = 65536; // writes of a block
 const RELAY_ROWS = 12;
 const PRINTABLE = /[!-;=-[\]-~ ]/; // without < and the backslash
 
-// Writes a name: what could end the block is a backslash and three octal digits.
+// Returns a text without line feeds as a block has it: what could end the block is a backslash and three octal digits.
 function nameOf(text) {
   const bytes = [...new TextEncoder().encode(text)].map((byte) => [byte, String.fromCharCode(byte)]);
   return bytes.map(([byte, sign]) => (PRINTABLE.test(sign) ? sign : `\\${byte.toString(8).padStart(3, '0')}`)).join('');
 }
+
+// Returns the text of a file as the lines of a block.
+export const blockOf = (text) => text.split('\n').map(nameOf).join('\n');
 
 // Runs to the stop, and calls `add` with the writes up to each one that changes the panel, as `agc --log` has them.
 async function eachChange(console, add) {

@@ -7,7 +7,7 @@
 import { doCommand } from './commands.js';
 import { Console } from './console.js';
 import { Ended, Fault } from './faults.js';
-import { filmOf } from './film.js';
+import { blockOf, filmOf } from './film.js';
 import { makeInstruments } from './instruments.js';
 import { Machine } from './machine.js';
 import { Searcher } from './searcher.js';
@@ -89,7 +89,7 @@ const CALLS = {
   search: ({ lines, before }) => machine.search(lines, before),
   script: () => ({ script: machine.script(), limit: machine.limit() }),
   views: async () => ({ views: await machine.pastViews() }),
-  film: async ({ module, ...files }) => ({ film: await filmOf(module, files) }),
+  film: async ({ module, ...files }) => ({ film: await filmOf(module, files), nouns: blockOf(files.nouns ?? '') }),
 };
 
 async function answerTo(call, body) {
