@@ -248,8 +248,21 @@ def try_link():
         page.site.open('lander')
         page.value(f"location.hash = 'session={packed(good)}{behind}'; undefined")
         judge(f'with {behind} behind it', 'x', page.see("document.getElementById('rope').textContent", 'x'))
+    try_marked_link(page, good)
     try_faulty_link(page)
     page.close()
+
+
+def try_marked_link(page, good):
+    """Markup in the title and in the guide of a link is a text, in the page as it stands and as it is opened."""
+    guide = f'guide {MARKUP}\nstep {MARKUP}\nwhy {MARKUP}\nlabel {MARKUP}\nclick play\n'
+    code = packed({**good, 'title': MARKUP, 'guide': guide, 'names': f'4000 {MARKUP.replace(" ", "/")}\n', 'chosen': MARKUP})
+    found = "[find('rope').textContent, find('strip-what').textContent, document.querySelectorAll('img, body > script[src]').length, window.ran ?? 0]"
+    wanted = [MARKUP, MARKUP, 0, 0]
+    page.value(f"location.hash = 'session={code}'; undefined")
+    judge('markup in a link is a text', wanted, page.see(found, wanted))
+    page.open_file(f'#session={code}')
+    judge('also if the page opens with it', wanted, page.see(found, wanted))
 
 
 def try_faulty_link(page):
