@@ -11,6 +11,13 @@ from local import LocalPage, LocalSite, web
 from site_of import example
 
 ACTS = 25  # of a session
+# What the worker's script has in the tries, for what it has in the page.
+TAPS = (
+    ("await console.say('quiet')", "await console.say('quiet off')"),
+    ("write: (file, part) => console.#write(file, part)", "write: (file, part) => { Seen.take(console, file, part); console.#write(file, part); }"),
+    ("this.#input.give(`${commands.join('\\n')}\\n`)", "Seen.say(this, commands.join('\\n')); this.#input.give(`${commands.join('\\n')}\\n`)"),
+    ("const CALLS = {", "const CALLS = { seen: () => ({ seen: Seen.log() }),"),
+)
 Seen = namedtuple('Seen', 'cycle')
 
 
@@ -111,9 +118,10 @@ def try_random():
     """Whatever is pressed, stepped, gone back and undone, the script repeats it."""
     rope = example('verbs', 'rope')
     page = LocalPage(LocalSite(rope))
-    for number, seed in enumerate(web.seeds(3)):
-        if number:
-            page.site.open()
+    tap(page)
+    count = 0
+    for seed in web.seeds(3):
+        page.site.open()
         chance, session = random.Random(seed), PageSession(page.site)
         done, dropped = [], []
         for _ in range(ACTS):
@@ -122,9 +130,24 @@ def try_random():
             what = f'random session {seed} after {done[-3:]}'
             web.compare_session(what, session, rope)
             web.compare_scripts(what, done[-1], before, session, dropped)
-        web.compare_end(f'random session {seed} at its end', session, rope)
+        log = web.compare_end(f'random session {seed} at its end', session, rope)
+        seen = page.value("engine.call('seen').then((answer) => answer.seen)")
+        judge(f'random session {seed} at its end: the writes as it was lived', log, seen)
+        count += len(seen)
         compare_films(f'random session {seed} at its end', page, rope)
+    judge('there were writes to compare', True, count > 0)
     page.close()
+
+
+def tap(page):
+    """Lets the workers of a page note the writes of their sessions."""
+    with open(os.path.join(os.path.dirname(__file__), 'seen.js'), encoding='utf-8') as file:
+        text = file.read()
+    worker = page.value("dataOf('worker')")
+    for usual, tapped in TAPS:
+        judge(f'{usual!r} is there once', 1, worker.count(usual))
+        worker = worker.replace(usual, tapped)
+    page.value(f"find('worker').textContent = {web.json.dumps(f'{worker}{text}')}; undefined")
 
 
 def compare_films(what, page, rope):
