@@ -1,8 +1,9 @@
 """Measures what agc.html promises, in Chromium and in Firefox, from its file and without a network: seconds until the DSKY is drawn, lamps,
 milliseconds from a key to a lamp, the pace of a landing, seconds to go back an hour, memory, and a rope that floods with writes.
 
-Lamps and memory are always checked. With FIGURES=1 a time and the pace are checked too, with a limit that is longer on a busy machine,
-as `judge.slowness` says; it measures longer, prints each figure with its limit, and makes two more tries, try_hour_chromium and try_hour_firefox: an hour of machine time that ends with a landing.
+Each limit is checked. Those of times and of the pace are stretched on a busy machine, as `judge.slowness` says, by BUSY at most, with
+FIGURES=1 by NEARLY. FIGURES=1 measures longer, prints each figure with its limit, says which one does not count because the machine was too
+busy, and makes two more tries, try_hour_chromium and try_hour_firefox: an hour of machine time that ends with a landing.
 """
 import base64
 import contextlib
@@ -26,6 +27,9 @@ SEED = 7
 COLLECTED = 30  # seconds after which a browser has collected what a page no longer uses
 KILOBYTES = 1024  # of a megabyte
 LIMITS = {'opening': 1.5, 'key': 50, 'pace': 100, 'back': 5, 'memory': 200, 'frame': 500, 'stop': 1000}
+# Times a limit at most: with FIGURES=1, and else. With fifteen processes that waited for two processors each figure was within its limit or
+# just above it, and with twenty a key took twice its limit.
+NEARLY, BUSY = 1.5, 10
 LAMPS = ['ALT', 'COMP ACTY', 'GIMBAL LOCK', 'ISS', 'KEY REL', 'NO ATT', 'OPR ERR', 'PROG', 'TEMP', 'TRACKER', 'UPLINK ACTY', 'VEL']
 # Notes when the DSKY was drawn first with its session.
 OPENED = '''
@@ -141,9 +145,12 @@ def show(browser, what, value, limit):
 
 
 def hold(browser, what, found, limit):
-    """Checks, if figures are wanted, that a time is below its limit, which is longer on a busy machine."""
-    if web.FIGURES:
-        check(f'{browser}: {what}: {found:.3f}, limit {limit}', found < limit or found < limit * slowness())
+    """Checks that a time is below its limit, which is longer on a busy machine."""
+    slow = 1 if found < limit else slowness()
+    stretched = limit * min(slow, NEARLY if web.FIGURES else BUSY)
+    check(f'{browser}: {what}: {found:.3f}, limit {limit}, stretched on this machine to {stretched:.3f}', found < stretched)
+    if web.FIGURES and slow > NEARLY:
+        print(f'page: {browser}: {what}: this figure does not count: the machine is so busy that it may take {slow:.1f} times as long', flush=True)
 
 
 def files_of(name, **more):
@@ -246,8 +253,7 @@ def measure_pace(page, browser):
     what, flights = f'{LIMITS["pace"]} times', f'{flown["flights"]} flights of {flown["seconds"]:.1f} s'
     show(browser, 'pace of a landing by the clock (not checked)', f'{pace:.1f} times the hardware in {flights}', what)
     show(browser, 'pace of a landing by processor time of its worker', f'{alone:.0f} times the hardware', what)
-    if web.FIGURES:
-        check(f'{browser}: pace {alone:.1f}, limit {what}', alone >= LIMITS['pace'] or alone >= LIMITS['pace'] / slowness())
+    hold(browser, 'processor time of a landing, in parts of what the limit allows', LIMITS['pace'] / alone, 1)
 
 
 def measure_flood(page, browser, instrument):
