@@ -43,7 +43,7 @@ fn an_answer_ends_with_the_cycle(rt: HostRuntime) {
     has_room(&rt, push_error_line(&mut text, "memory"));
     let wanted = "at 8533
 stop DivisionUndefined at 0
-error: Usage: back [list] C, step [N], over or finish [job CELL], or until PLACE [if CELL < WORD], write CCC [WORD], cell PLACE, interrupt [NAME] or panel [ignore N]
+error: Usage: back [list] C, step [N], over or finish [job CELL], or until PLACE [if CELL < WORD], write CCC [WORD], cell PLACE, interrupt [NAME] or panel; after until [ignore N]
 error: BadChannel: a channel is octal, 0 to 777
 error: memory
 ";
@@ -109,7 +109,7 @@ fn help_reports_each_command_once(rt: HostRuntime) {
     equal(&rt, text.as_str().lines().count(), 31);
     assert!(rt;
         text.as_str().contains(
-            "\nback [list] C, step [N], over or finish [job CELL], or until PLACE [if CELL < WORD], write CCC [WORD], cell PLACE, interrupt [NAME] or panel [ignore N]: returns to"
+            "\nback [list] C, step [N], over or finish [job CELL], or until PLACE [if CELL < WORD], write CCC [WORD], cell PLACE, interrupt [NAME] or panel; after until [ignore N]: returns to"
         )
     );
     assert!(rt;
