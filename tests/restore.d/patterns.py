@@ -444,7 +444,8 @@ def inverted_with_bank_00(draw):
 
 
 def layouts(draw):
-    """A rope of random words, in each other layout: the sums alone show how it has to be read, so that is sure."""
+    """A rope of random words, in each other layout: sums show how its words have to be read, and what is called sure is right. If no
+    place has a legal order, nothing shows that the last bit is a parity bit."""
     for n, banks in enumerate((range(36), [1, 2, 3, 4, 8, 22])):
         sound = draw_rope(draw, banks)
         for first, classic, swap, kind in product((False, True), (False, True), (False, True), (None, *BITS)):
@@ -454,9 +455,13 @@ def layouts(draw):
             words = [word >> 1 | (word & 1) << 15 for word in words] if first else words
             words = [changed_back(word, kind, first) for word in words]
             write("image", [word >> 8 | (word & 255) << 8 for word in words] if swap else words)
-            reading = f"{'classic-' if classic else ''}parity{'-first' if first else ''}{' --swap' if swap else ''}{f' --bits {kind}' if kind else ''}"
+            more = f"{' --swap' if swap else ''}{f' --bits {kind}' if kind else ''}"
+            reading = f"{'classic-' if classic else ''}parity{'-first' if first else ''}{more}"
+            unused = f"{'classic' if classic else 'plain'}{more}"
             report = run("check", "image", "--form", "parity", "--first-bank", "00")[1].decode()
-            judge.check(f"layouts {n}: {reading}", f"    it reads better in another form (sure), read as {reading}: 100%" in report)
+            found = re.search(r"    it reads better in another form \((\w+)\), read as ([a-z -]+): ", report)
+            judge.check(f"layouts {n}: {reading}: {found and found[0]}", found and (found[2] == reading or found.groups() == ("likely", unused)))
+            judge.check(f"layouts {n}: {reading}: sure with all banks", n == 1 or "another form (sure)" in report)
 
 
 BITS = ("inverted", "word-inverted", "reversed")
