@@ -83,6 +83,8 @@ def restorers_files():
         "one-wrong": turned(sums, 5, {BANK + 6}),
         "two-wrong": turned(sums, 5, {BANK + 6, BANK + 16}),
         "no-sum-right": turned(sums[BANK:2 * BANK], 5, {6}) + [with_parity(1)],
+        "one-wrong-classic": turned(sums[2 * BANK:3 * BANK] + bank_of(209, 3) + sums[:2 * BANK] + bank_of(99, 4) + bank_of(99, 5)[:200], 5,
+                                    {4 * BANK + 6}),
         "25-wrong": turned(sums, 9, {3 * BANK + 8 * at for at in range(25)}),
         "stuck-bit": stuck(SCATTERED, 13),
         "stuck-parity": stuck(SCATTERED, 0),
