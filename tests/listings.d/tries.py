@@ -1,7 +1,7 @@
 """Tries of weave with pages in the listings' language.
 
-Of a page NAME.agc, NAME.words has each place with its word. Each row of `faults` is put where `faulty` has a mark; the
-row's last line is to be refused. Sums, listings, sources with includes and interpretive code have tries of their own.
+Of a page NAME.agc, NAME.words has each place with its word. Each row of `faults` is put where `faulty` has a mark, and into a file
+that is included there; the row's last line is to be refused, by its sentence and with its word. Sums, listings, sources with includes and interpretive code have tries of their own.
 """
 
 import re
@@ -9,7 +9,7 @@ import subprocess
 from pathlib import Path
 
 from followed import try_followed
-from judge import STUDY, TOP, finish, judge, scratch_folder
+from judge import STUDY, TOP, check, finish, judge, scratch_folder
 from source_lines import try_source_lines
 
 HERE = Path(__file__).parent
@@ -45,18 +45,85 @@ def try_page(page):
     judge(f"{page.name}, places with another word", [], [(each, wanted.get(each), came.get(each)) for each in other[:5]])
 
 
+FAULTS = [Path(TOP, "crates", *name.split("/")) for name in (
+    "agc_vocabulary/src/source_fault.rt", "agc_interpretive/src/fault.rt", "agc_include/src/fault.rt")]
+# Faults that no row can have: weave names the line of another word for a place, and the cases of tests/messages.d say why of the others.
+NO_ROW = {"NamedTwice", "Include", "OtherOrder"}
+MOST_BYTES = 16_777_216  # of a file
+
+
+class Faulty:
+    """A row of `faults`: its lines, its sentence, and column and word of its last line, or None."""
+
+    def __init__(self, row, sentence):
+        self.row, self.sentence, self.lines, self.column, self.word = row, sentence, [], None, None
+        for line in row.split(";"):
+            text, count = re.fullmatch(r"(.*?)(?:\{(\d+)\})?", line).groups()
+            begin, mark, rest = text.partition("<")
+            if mark:
+                self.column, self.word, text = len(begin) + 1, rest.split(">")[0], begin + rest.replace(">", "", 1)
+            self.lines += [re.sub(r"\\([0-7]{3})", lambda found: chr(int(found[1], 8)), text)] * int(count or 1)
+
+
+def faulty_rows():
+    """The rows of `faults`."""
+    rows, sentence = [], ""
+    for line in (HERE / "faults").read_text().splitlines():
+        if line.startswith("= "):
+            sentence = line[2:]
+        elif line and not line.startswith("#"):
+            rows.append(Faulty(line, sentence))
+    return rows
+
+
+def write_included(folder):
+    """Writes what the rows include."""
+    Path(folder, "folder").mkdir()
+    Path(folder, "folder", "OTHER.agc").write_text("")
+    Path(folder, "outside.agc").symlink_to(Path("folder", "OTHER.agc"))
+    for name, count in (("empty", 0), ("full", MOST_BYTES), ("long", MOST_BYTES + 1)):
+        Path(folder, f"{name}.agc").write_bytes(b"#" * count)
+
+
+def begin_of(message, wanted):
+    """As many lines of a message as are wanted."""
+    return "".join(message.splitlines(True)[:wanted.count("\n")])
+
+
+def try_fault(page, base, faulty):
+    """Tries a row in the page, and in a file that the page includes."""
+    at = base.index("# MARK")
+    number, sentence = at + len(faulty.lines), faulty.sentence
+    page.write_text("\n".join(base[:at] + faulty.lines + base[at + 1:]), encoding="latin-1")
+    wanted = f"agc-study: text line {number}: {sentence}\n"
+    if faulty.column:
+        wanted += f"    page.agc line {number}, column {faulty.column}: `{faulty.word}`\n"
+    elif faulty.row.startswith("$"):
+        wanted = f"agc-study: page.agc line {number}: {sentence}\n"
+    status, rope, message = weave(page)
+    judge(f"the line `{faulty.row}`", (2, b"", wanted), (status, rope, begin_of(message, wanted)))
+    if faulty.row.startswith("$"):
+        return
+    page.with_name("PART.agc").write_text("\n".join(faulty.lines), encoding="latin-1")
+    page.write_text("\n".join(base[:at] + ["$PART.agc"] + base[at + 1:]))
+    wanted = f"agc-study: PART.agc line {len(faulty.lines)}: page.agc {sentence}\n"
+    if faulty.column:
+        wanted = f"agc-study: PART.agc line {len(faulty.lines)}, column {faulty.column}: {sentence}: `{faulty.word}`\n"
+    status, rope, message = weave(page)
+    judge(f"`{faulty.row}` in a file that is included", (2, b"", wanted), (status, rope, begin_of(message, wanted)))
+
+
 def try_faults(scratch):
-    base = (HERE / "faulty").read_text().split("\n")
-    mark = base.index("# MARK")
-    page = Path(scratch, "page.agc")
-    for row in (HERE / "faults").read_text().splitlines():
-        if not row or row.startswith("#"):
-            continue
-        lines = row.split(";")
-        page.write_text("\n".join(base[:mark] + lines + base[mark + 1:]))
-        status, rope, message = weave(page)
-        first = re.match(r"agc-study: (?:text|page\.agc) line (\d+)\b", message)
-        judge(f"the line `{row}`", (2, b"", mark + len(lines)), (status, rope, int(first[1]) if first else message))
+    folder = Path(scratch, "faults")
+    folder.mkdir()
+    write_included(folder)
+    base, rows = (HERE / "faulty").read_text().split("\n"), faulty_rows()
+    for faulty in rows:
+        try_fault(folder / "page.agc", base, faulty)
+    cases = [case for file in FAULTS for case in re.findall(r"Fault::(\w+) =>\s*\{?\s*\"([^\"]*)\"", file.read_text(encoding="utf-8"))]
+    shown = {faulty.sentence for faulty in rows}
+    judge("faults without a row", [], [name for name, text in cases if text not in shown and name not in NO_ROW])
+    check(f"{len(rows)} faulty lines and {len(cases)} faults: too few", len(rows) >= 200 and len(cases) >= 40)
 
 
 def run(*words):
@@ -179,7 +246,7 @@ bank 02: 1 words differ
     done = run("compare", "--words", Path(folder, "MAIN.agc"), whole, "--source")
     judge("compare --words, a source with includes", (1, wanted.encode(), ""), done)
     Path(folder, "REST.agc").write_text("        TS      TIMER\nTEN     OCT     12\n")
-    wanted = "agc-study: REST.agc line 1: no line has this name\n"
+    wanted = "agc-study: REST.agc line 1, column 17: no line has this name: `TIMER`\n"
     done = run("compare", "--words", Path(folder, "MAIN.agc"), whole, "--source")
     judge("a faulty one", (2, b"", wanted), done)
 

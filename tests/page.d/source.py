@@ -70,7 +70,7 @@ def woven(text):
     source, names = file_of('source', text.encode()), os.path.join(LocalPage.folder(), 'names')
     done = subprocess.run([STUDY, 'weave', source, '--write-names', names, '--force'], capture_output=True)
     if done.returncode:
-        return None, None, None, [int(line) for line in re.findall(r'^agc-study: text line (\d+)', done.stderr.decode(), re.MULTILINE)]
+        return None, None, None, [int(line) for line in re.findall(r'^agc-study: (?:text|source) line (\d+)', done.stderr.decode(), re.MULTILINE)]
     rope = file_of('woven', done.stdout)
     listing = subprocess.run([STUDY, 'list', rope, '--names', names], capture_output=True, text=True, check=True).stdout
     with open(names) as file:

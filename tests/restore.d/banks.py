@@ -9,7 +9,7 @@ import judge
 from merging import BANK, draw_rope, in_classic_order, is_even, read, without_parity, write
 from patterns import run
 
-CHANGED = re.compile(r"agc-study: bank (\d\d): (\d+) words changed, (\d+) of them are none now")
+CHANGED = re.compile(r"agc-study: bank (\d\d): words changed: (\d+), now without a word: (\d+)")
 
 
 def bank_words(words, bank):
@@ -48,7 +48,7 @@ def taken_out(draw):
 
 
 def judge_changes(what, before, after, remark):
-    """Judges that each bank whose words changed is named, with how many did and how many are none now."""
+    """Judges that each bank whose words changed is named, with how many did and how many are no words now."""
     before = before + [0] * (len(after) - len(before))
     wanted = []
     for bank in range(36):

@@ -71,10 +71,10 @@ def patterns(name, *options):
 
 
 def mended(command):
-    """Runs a printed command, whose ROPE is `image`, and returns the words of the rope that it makes."""
+    """Runs a printed command, whose ROPE is `image` and whose DUMP is `other`, and returns the words of the rope that it makes."""
     made = b""
     for at, part in enumerate(command.split(", and ")):
-        words = shlex.split(part.replace("ROPE", "image"))
+        words = shlex.split(part.replace("ROPE", "image").replace("DUMP", "other"))
         into = None
         if ">" in words:
             into = words[words.index(">") + 1]
@@ -169,6 +169,11 @@ def few_words(draw):
 
 # Banks in other places
 
+def held(words, first, count=1):
+    """Returns how many places of some banks have a word."""
+    return sum(word != 0 for word in words[first * BANK:(first + count) * BANK])
+
+
 def exchanged(draw):
     for n in range(6):
         banks = draw.sample(range(1, 36), 6)
@@ -177,7 +182,8 @@ def exchanged(draw):
         words = list(sound)
         words[one * BANK:(one + 1) * BANK], words[two * BANK:(two + 1) * BANK] = (
             sound[two * BANK:(two + 1) * BANK], sound[one * BANK:(one + 1) * BANK])
-        wanted = [("exchanged", f"banks {one:02o} and {two:02o}; the sum of each is the number of the other (likely)")]
+        wanted = [("exchanged", f"banks {one:02o} and {two:02o}, {held(words, one)} and {held(words, two)} words; the sum of each is the "
+                                "number of the other (likely)")]
         write("image", words)
         found = patterns("image", "--form", "parity")
         judge_lines(f"exchanged {n}", wanted, found)
@@ -246,30 +252,45 @@ def twice(draw):
     """A bank, or a module, has the words of another one."""
     for n in range(4):
         sound = draw_rope(draw, range(2, 24))
+        write("other", sound)
+        judge_twice(f"twice {n}: a bank", sound, (20, 5, 1), "bank 24 has the words of bank 05", "latter")
+        judge_twice(f"twice {n}: the former bank", sound, (5, 20, 1), "bank 24 has the words of bank 05", "former")
+        judge_twice(f"twice {n}: a module", sound, (12, 6, 6), "module 3, banks 14-21, has the words of module 2, banks 06-13", "latter")
         words = list(sound)
-        words[20 * BANK:21 * BANK] = sound[5 * BANK:6 * BANK]
+        words[20 * BANK + 30] = words[5 * BANK + 30] = with_parity(words[5 * BANK + 30] >> 1 ^ 1)
+        words[5 * BANK:6 * BANK] = words[20 * BANK:21 * BANK]
         write("image", words)
-        texts = [text for kind, text, _ in patterns("image", "--form", "parity") if kind == "twice"]
-        judge.judge(f"twice {n}: a bank", ["bank 24 has the words of bank 05 (certain); the sums are right for the latter: put the "
-                                           "words of the former back by patch --banks 24"], texts)
-        words = list(sound)
-        words[2 * MODULE:3 * MODULE] = sound[MODULE:2 * MODULE]
-        write("image", words)
-        texts = [text for kind, text, _ in patterns("image", "--form", "parity") if kind == "twice"]
-        judge.judge(f"twice {n}: a module", ["module 3, banks 14-21, has the words of module 2, banks 06-13 (certain); the sums "
-                                             "are right for the latter: put the words of the former back by patch --banks 14-21"],
-                    texts)
+        found = [line for line in patterns("image", "--form", "parity") if line[0] == "twice"]
+        text = f"bank 24 has the words of bank 05, {held(words, 5)} words (certain); no sum shows which is right"
+        judge.judge(f"twice {n}: without a sum", [("twice", text, None)], found)
+
+
+def judge_twice(what, sound, part, text, right):
+    """Judges a rope some of whose banks have the words of others; the part is the first bank that changes, the first bank whose words
+    it gets, and their number."""
+    into, of, count = part
+    words = list(sound)
+    words[into * BANK:(into + count) * BANK] = sound[of * BANK:(of + count) * BANK]
+    write("image", words)
+    found = [line for line in patterns("image", "--form", "parity") if line[0] == "twice"]
+    judge_lines(what, [("twice", f"{text}, {held(words, of, count)} words (certain); the sums are right for the {right}")], found)
+    judge_mended(what, sound, found)
 
 
 def missing(draw):
     """A module of a full rope has no words."""
     for n in range(6):
-        words = draw_rope(draw, range(36))
+        sound = draw_rope(draw, range(36))
+        write("other", sound)
+        words = list(sound)
         words[n * MODULE:(n + 1) * MODULE] = [draw.choice([0, 0xFFFF])] * MODULE
         write("image", words)
         banks = f"{6 * n:02o}-{6 * n + 5:02o}"
-        judge_lines(f"missing {n}", [("missing", f"module {n + 1}, banks {banks}, has no words, and each other bank has some (likely); "
-                                                 f"patch --banks {banks} puts it in")], patterns("image", "--form", "parity"))
+        others = held(sound, 0, 36) - held(sound, 6 * n, 6)
+        found = patterns("image", "--form", "parity")
+        judge_lines(f"missing {n}", [("missing", f"module {n + 1}, banks {banks}, has no words, and each other bank has some, {others} in all "
+                                                 "(likely)")], found)
+        judge_mended(f"missing {n}", sound, found)
 
 
 # What shows nothing
@@ -444,8 +465,8 @@ def inverted_with_bank_00(draw):
 
 
 def layouts(draw):
-    """A rope of random words, in each other layout: sums show how its words have to be read, and what is called sure is right. If no
-    place has a legal order, nothing shows that the last bit is a parity bit."""
+    """A rope of random words, in each other layout: sums and parity bits show how its words have to be read, and that is called sure if
+    all banks have words."""
     for n, banks in enumerate((range(36), [1, 2, 3, 4, 8, 22])):
         sound = draw_rope(draw, banks)
         for first, classic, swap, kind in product((False, True), (False, True), (False, True), (None, *BITS)):
@@ -457,10 +478,9 @@ def layouts(draw):
             write("image", [word >> 8 | (word & 255) << 8 for word in words] if swap else words)
             more = f"{' --swap' if swap else ''}{f' --bits {kind}' if kind else ''}"
             reading = f"{'classic-' if classic else ''}parity{'-first' if first else ''}{more}"
-            unused = f"{'classic' if classic else 'plain'}{more}"
             report = run("check", "image", "--form", "parity", "--first-bank", "00")[1].decode()
             found = re.search(r"    it reads better in another form \((\w+)\), read as ([a-z -]+): ", report)
-            judge.check(f"layouts {n}: {reading}: {found and found[0]}", found and (found[2] == reading or found.groups() == ("likely", unused)))
+            judge.judge(f"layouts {n}: {reading}", reading, found and found[2])
             judge.check(f"layouts {n}: {reading}: sure with all banks", n == 1 or "another form (sure)" in report)
 
 

@@ -15,6 +15,7 @@ import judge
 import merging
 import pages
 import patterns
+import ranks
 import slips
 import sums
 
@@ -345,7 +346,7 @@ def parity_bits(draw):
             remarks = run("convert", "image", "--form", "parity", "--to", "classic", "--ignore-parity", *options)[1]
             found = [place_of(*place) for place in re.findall(r"^    (\d\d),(\d{4}) ", remarks, re.M)]
             judge.judge(f"parity bits {n}: words", shown, found)
-            judge.check(f"parity bits {n}: count", f"made {len(places)} parity bits right" in remarks)
+            judge.check(f"parity bits {n}: count", f"parity bits made right: {len(places)}\n" in remarks)
 
 
 def sound_ropes(draw):
@@ -363,7 +364,7 @@ def main():
     draw = random.Random(int(os.environ.get("RESTORE_SEED", "69")))
     for group in (single_words, two_that_fit, sums_unknown, stuck_columns, changed_bits, layouts, modules,
                   moved_modules, repeated_code, parity_bits, sound_ropes, *merging.GROUPS, *sums.GROUPS, *patterns.GROUPS, *banks.GROUPS,
-                  *slips.GROUPS, *dumps.GROUPS, merging.five_commands, *pages.GROUPS):
+                  *slips.GROUPS, *dumps.GROUPS, *ranks.GROUPS, merging.five_commands, *pages.GROUPS):
         judge.attempt(group, draw)
     judge.finish()
 

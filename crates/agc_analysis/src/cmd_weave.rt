@@ -8,7 +8,7 @@ ghost use Rattle.agc_run_commands.specs.Fault.{IsReported};
 
 use agc_asm::{AssemblyFault, assemble, source_symbols, word_lines};
 use agc_cli::exit_usage;
-use agc_include::{Expanded, has_include};
+use agc_include::{Expanded, has_include, name_of_path};
 use agc_io::{OK, ReadError, TEXT_BYTES, WRITE_FAILED, read_limited, status_of, write_in_full};
 use agc_listing_check::{Misnamed, first_misnamed, line_remarks};
 use agc_rope_commands::{
@@ -24,6 +24,10 @@ use agc_woven::{ListingFault, SumsFault, listing_of, used_file, with_sums};
 use std::alloc::Global;
 use std::io::{self, ErrorKind, Read, Write};
 use std::rt::Files;
+
+/// Why a listing is not written that is longer than `TEXT_BYTES`.
+const LONG_LISTING: &str =
+    "the listing has more than 16777216 bytes, and no command reads so much: leave out --write-listing";
 
 /// Assembles a text file and writes its symbols. A path of the symbols that may not be written is a command-line error.
 /// Remarks warn about the first line with a mismatched mnemonic, and skipped orders.
@@ -68,7 +72,8 @@ where
     let mut text = source.as_slice();
     let status = write_weave(rt, args, &mut text, io);
     if status == FAULTY {
-        let written = write_other_faults(rt.alloc(), source.as_slice(), &mut io.err);
+        let name = name_of_path(args.text.as_str());
+        let written = write_other_faults(rt.alloc(), name, source.as_slice(), &mut io.err);
         return status_of(FAULTY, written);
     }
     status
@@ -149,22 +154,37 @@ fn finished_rope(
     } else {
         (bytes, Vec::new(alloc))
     };
-    let listing = if args.write_listing.is_some() {
-        match listing_of(alloc, args.form, source, file.as_slice()) {
-            Ok(text) => Some(text),
-            Err(ListingFault::Source(_)) => return Err("memory"),
-            Err(ListingFault::OtherRope) => {
-                return Err("the listing does not weave to this rope: report it, please");
-            }
-        }
-    } else {
-        None
-    };
+    let listing = wanted_listing(alloc, args, source, file.as_slice())?;
     Ok(FinishedRope {
         file,
         listing,
         full,
     })
+}
+
+/// Makes the listing of a rope, if it is wanted. A listing that no command could read is refused.
+fn wanted_listing(
+    alloc: Global,
+    args: &WeaveArgs,
+    source: &Expanded,
+    file: &[u8],
+) -> Result<Option<String>, &'static str> {
+    if args.write_listing.is_none() {
+        return Ok(None);
+    }
+    match listing_of(alloc, args.form, source, file) {
+        Ok(text) => {
+            if text.len() > TEXT_BYTES {
+                Err(LONG_LISTING)
+            } else {
+                Ok(Some(text))
+            }
+        }
+        Err(ListingFault::Source(_)) => Err("memory"),
+        Err(ListingFault::OtherRope) => {
+            Err("the listing does not weave to this rope: report it, please")
+        }
+    }
 }
 
 /// Adds the sums to a rope behind the last words of its source, and returns the banks without room too.

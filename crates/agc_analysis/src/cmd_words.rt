@@ -281,7 +281,7 @@ fn line_names(alloc: Global, source: &Expanded) -> Result<Vec<String>, AllocErro
             break;
         }
         let mut name = String::new(alloc);
-        push_line(&mut name, Some(source), number)?;
+        push_line(&mut name, source, number)?;
         names.push(name)?;
     }
     Ok(names)

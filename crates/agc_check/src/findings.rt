@@ -21,6 +21,10 @@ const FEWEST_SUMS: usize = 2;
 /// The fewest banks whose sums make a reading sure.
 const SURE_SUMS: usize = 4;
 
+/// How much more per cent of the bits have to be right for that to show a reading: in bits that are neither parity bits nor
+/// unused ones about half are right.
+const SURE_BITS: usize = 25;
+
 /// Appends the findings on a rope file, if it has whole words and not more than a rope.
 pub fn push_findings(
     alloc: Global,
@@ -205,7 +209,7 @@ fn readings_of(form: RopeForm, is_settled: bool, scores: &[Score]) -> Readings {
     }
 }
 
-/// Returns the one of two readings that fits better; one for which nothing speaks is none.
+/// Returns the one of two readings that fits better. A reading with neither sums nor points is left out.
 fn better_of(best: Option<Score>, other: Score) -> Option<Score> {
     match best {
         Some(best) if !fits_better(other, best) => Some(best),
@@ -226,7 +230,7 @@ fn are_numbers(score: Score) -> bool {
 }
 
 /// Returns whether a reading fits better than another one: by more sums of banks, else by those that are numbers, else by its
-/// points.
+/// points, else by its right bits.
 fn fits_better(one: Score, other: Score) -> bool {
     let (sums, others) = (sums_for(one), sums_for(other));
     if sums != others {
@@ -235,17 +239,19 @@ fn fits_better(one: Score, other: Score) -> bool {
     match (are_numbers(one), are_numbers(other)) {
         (true, false) => true,
         (false, true) => false,
-        _ => one.points > other.points,
+        _ if one.points != other.points => one.points > other.points,
+        _ => one.bits > other.bits,
     }
 }
 
-/// Returns whether a reading fits so much better than another one that this is sure: by the sums of enough banks, else by its
-/// points.
+/// Returns whether a reading fits so much better than another one that this is sure: by the sums of enough banks, among these
+/// by its right bits, else by its points.
 fn is_far_better(best: Score, other: Score) -> bool {
     let (sums, others) = (sums_for(best), sums_for(other));
     let by_sums = sums > others || are_numbers(best) && other.sums.numbers == 0;
+    let by_bits = best.bits > other.bits.saturating_add(SURE_BITS);
     let by_points = best.points > other.points.saturating_mul(2).saturating_add(8);
-    sums >= others && (by_points || by_sums && sums >= SURE_SUMS)
+    sums >= others && (by_points || (by_sums || by_bits) && sums >= SURE_SUMS)
 }
 
 /// Appends how well the given form fits, and another reading if it fits better, unless the given one is settled by the
@@ -290,9 +296,14 @@ fn push_score(text: &mut String, score: Score) -> Result<(), AllocError> {
     )?;
     let unreached = score.reach.unreached;
     if unreached > 0 {
+        let are = if unreached == 1 {
+            "word is"
+        } else {
+            "words are"
+        };
         writeln!(
             text,
-            "    {unreached} words are not reached without a change of bank: data, or code of other banks (possible)"
+            "    {unreached} {are} not reached without a change of bank: data, or code of other banks (possible)"
         )?;
     }
     Ok(())

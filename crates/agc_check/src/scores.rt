@@ -20,8 +20,8 @@ const CHANGES: [BitChange; 4] = [
     BitChange::Reversed,
 ];
 
-/// How many banks' sums fit, as the flight programs check them. Bank 00 does not count: its sum fits if all its words are
-/// inverted, too.
+/// How many banks have a sum that fits, as the flight programs check it. Bank 00 is left out: its sum also fits if all its
+/// words are inverted.
 #[derive(Clone, Copy, Debug, PartialEq, Eq)]
 pub struct Sums {
     /// The banks whose sum is their number.

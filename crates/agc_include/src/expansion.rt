@@ -1,9 +1,12 @@
 //! Expands the includes of a source to one text, and keeps the file and line of each of its lines.
-use crate::fault::{ExpandError, IncludeFault, ReadFault};
+use crate::fault::{
+    ExpandError, FaultyInclude, FaultyIncludes, IncludeFault, MOST_FAULTS, ReadFault,
+};
+use agc_io::TEXT_BYTES;
 use agc_word::next_line;
 use std::alloc::{AllocError, Global};
 
-/// The most files that a source includes.
+/// The most files that a source includes, and that are looked for.
 const MOST_FILES: usize = 1000;
 
 /// The most bytes of a source with the files that it includes.
@@ -99,67 +102,182 @@ fn is_include(line: &[u8]) -> bool {
     matches!(line, [b'$', ..])
 }
 
-/// Expands the includes of a source. The faults are those of the first faulty line.
+/// A source that is being expanded.
+#[derive(Drop)]
+struct Expansion {
+    expanded: Expanded,
+    /// The files that are being read; each includes the next one.
+    open: Vec<OpenFile>,
+    /// The number of files that were looked for.
+    sought: usize,
+    /// The number of bytes of all files so far.
+    bytes: usize,
+    faults: FaultyIncludes,
+}
+
+impl Expansion {
+    /// Begins with the main file.
+    fn new(alloc: Global, main: &str, text: Vec<u8>) -> Result<Expansion, AllocError> {
+        let mut expansion = Expansion {
+            expanded: Expanded {
+                text: Vec::new(alloc),
+                files: Vec::new(alloc),
+                origins: Vec::new(alloc),
+            },
+            open: Vec::new(alloc),
+            sought: 0,
+            bytes: text.len(),
+            faults: FaultyIncludes {
+                first: Vec::new(alloc),
+                count: 0,
+            },
+        };
+        expansion.push_file(alloc, main, text)?;
+        Ok(expansion)
+    }
+
+    /// Begins to read a file.
+    fn push_file(&mut self, alloc: Global, name: &str, text: Vec<u8>) -> Result<(), AllocError> {
+        let file = self.expanded.files.len();
+        self.expanded.files.push(String::from_str(alloc, name)?)?;
+        self.open.push(OpenFile {
+            file,
+            text,
+            read: 0,
+            line: 0,
+        })?;
+        Ok(())
+    }
+
+    /// Looks for the file that an include names, and begins to read it.
+    fn include<F: Folder>(
+        &mut self,
+        alloc: Global,
+        folder: &mut F,
+        name: &str,
+    ) -> Result<(), ReadFault> {
+        if self.sought >= MOST_FILES {
+            return Err(ReadFault::Include(IncludeFault::TooManyFiles));
+        }
+        if self.is_open(name) {
+            return Err(ReadFault::Include(IncludeFault::Circle));
+        }
+        self.sought = self.sought.saturating_add(1);
+        match folder.read(alloc, name) {
+            Ok(text) => {
+                self.count_bytes(text.len())?;
+                self.push_file(alloc, name, text)?;
+                Ok(())
+            }
+            Err(ReadFault::Include(IncludeFault::TooLong)) => {
+                self.count_bytes(TEXT_BYTES)?;
+                Err(ReadFault::Include(IncludeFault::TooLong))
+            }
+            Err(fault) => Err(fault),
+        }
+    }
+
+    /// Returns whether a file with this name is being read.
+    fn is_open(&self, name: &str) -> bool {
+        for file in self.open.iter() {
+            match self.expanded.files.get(file.file) {
+                Some(known) if known.as_str() == name => return true,
+                _ => {}
+            }
+        }
+        false
+    }
+
+    /// Counts bytes of a file. Fails if there are too many in all.
+    fn count_bytes(&mut self, count: usize) -> Result<(), ReadFault> {
+        self.bytes = self.bytes.saturating_add(count);
+        if self.bytes > MOST_BYTES {
+            Err(ReadFault::Include(IncludeFault::TooManyBytes))
+        } else {
+            Ok(())
+        }
+    }
+
+    /// Notes the fault of a line. Keeps the first hundred, and counts the others.
+    fn note(
+        &mut self,
+        alloc: Global,
+        origin: Origin,
+        fault: IncludeFault,
+    ) -> Result<(), AllocError> {
+        self.faults.count = self.faults.count.saturating_add(1);
+        if self.faults.count > MOST_FAULTS {
+            return Ok(());
+        }
+        let faulty = FaultyInclude {
+            file: self.name_of(alloc, origin)?,
+            line: origin.line,
+            fault,
+        };
+        self.faults.first.push(faulty)?;
+        Ok(())
+    }
+
+    /// Returns the name of the file of a line.
+    fn name_of(&self, alloc: Global, origin: Origin) -> Result<String, AllocError> {
+        match self.expanded.files.get(origin.file) {
+            Some(name) => String::from_str(alloc, name.as_str()),
+            None => Ok(String::new(alloc)),
+        }
+    }
+
+    /// Returns the expanded source, or its faults.
+    fn finish(self) -> Result<Expanded, ExpandError> {
+        let Expansion {
+            expanded,
+            faults,
+            ..
+        } = self;
+        if faults.count == 0 {
+            Ok(expanded)
+        } else {
+            Err(ExpandError::Includes(faults))
+        }
+    }
+}
+
+/// Expands the includes of a source. A faulty include is left out, so that those behind it are found too. Too many files or
+/// bytes end the search.
 pub fn expand<F: Folder>(
     alloc: Global,
     folder: &mut F,
     main: &str,
     text: Vec<u8>,
 ) -> Result<Expanded, ExpandError> {
-    let mut total = text.len();
-    let mut expanded = Expanded {
-        text: Vec::new(alloc),
-        files: Vec::new(alloc),
-        origins: Vec::new(alloc),
-    };
-    let mut open = Vec::new(alloc);
-    push_file(alloc, &mut expanded, &mut open, main, text)?;
+    let mut expansion = Expansion::new(alloc, main, text)?;
     for _turn in 0..u64::MAX {
-        match next_step(alloc, &mut expanded, &mut open)? {
+        match next_step(alloc, &mut expansion.expanded, &mut expansion.open)? {
             Step::Taken => {}
-            Step::End => return Ok(expanded),
-            Step::BadName(origin) => {
-                return Err(fault_at(alloc, &expanded, origin, IncludeFault::BadName));
-            }
+            Step::End => return expansion.finish(),
+            Step::BadName(origin) => expansion.note(alloc, origin, IncludeFault::BadName)?,
             Step::Include(name, origin) => {
-                let read = included(alloc, folder, &expanded, &open, name.as_str());
-                match read {
-                    Ok(text) => {
-                        total = total.saturating_add(text.len());
-                        if total > MOST_BYTES {
-                            let fault = IncludeFault::TooManyBytes;
-                            return Err(fault_at(alloc, &expanded, origin, fault));
-                        }
-                        push_file(alloc, &mut expanded, &mut open, name.as_str(), text)?;
-                    }
+                match expansion.include(alloc, folder, name.as_str()) {
+                    Ok(()) => {}
                     Err(ReadFault::Memory) => return Err(ExpandError::Memory),
                     Err(ReadFault::Include(fault)) => {
-                        return Err(fault_at(alloc, &expanded, origin, fault));
+                        expansion.note(alloc, origin, fault)?;
+                        if ends_search(fault) {
+                            return expansion.finish();
+                        }
                     }
                 }
             }
         }
     }
-    Ok(expanded)
+    expansion.finish()
 }
 
-/// Begins to read a file.
-fn push_file(
-    alloc: Global,
-    expanded: &mut Expanded,
-    open: &mut Vec<OpenFile>,
-    name: &str,
-    text: Vec<u8>,
-) -> Result<(), AllocError> {
-    let file = expanded.files.len();
-    expanded.files.push(String::from_str(alloc, name)?)?;
-    open.push(OpenFile {
-        file,
-        text,
-        read: 0,
-        line: 0,
-    })?;
-    Ok(())
+/// Returns whether no other include is looked for after one with this fault.
+fn ends_search(fault: IncludeFault) -> bool {
+    matches!(
+        fault,
+        IncludeFault::TooManyFiles | IncludeFault::TooManyBytes
+    )
 }
 
 /// Takes the next line of the file that is being read.
@@ -228,48 +346,5 @@ fn include_name(alloc: Global, line: &[u8]) -> Result<Option<String>, AllocError
     match name.as_str() {
         "" | "." | ".." => Ok(None),
         _ => Ok(Some(name)),
-    }
-}
-
-/// Reads the file that an include names.
-fn included<F: Folder>(
-    alloc: Global,
-    folder: &mut F,
-    expanded: &Expanded,
-    open: &Vec<OpenFile>,
-    name: &str,
-) -> Result<Vec<u8>, ReadFault> {
-    if expanded.files.len() > MOST_FILES {
-        return Err(ReadFault::Include(IncludeFault::TooManyFiles));
-    }
-    for file in open.iter() {
-        match expanded.files.get(file.file) {
-            Some(known) if known.as_str() == name => {
-                return Err(ReadFault::Include(IncludeFault::Circle));
-            }
-            _ => {}
-        }
-    }
-    folder.read(alloc, name)
-}
-
-/// Returns the fault of a line.
-fn fault_at(
-    alloc: Global,
-    expanded: &Expanded,
-    origin: Origin,
-    fault: IncludeFault,
-) -> ExpandError {
-    let name = match expanded.files.get(origin.file) {
-        Some(name) => name.as_str(),
-        None => "",
-    };
-    match String::from_str(alloc, name) {
-        Ok(file) => ExpandError::Line {
-            file,
-            line: origin.line,
-            fault,
-        },
-        Err(_) => ExpandError::Memory,
     }
 }

@@ -40,15 +40,33 @@ impl fmt::Display for IncludeFault {
     }
 }
 
+/// The most faulty includes that are kept.
+pub(crate) const MOST_FAULTS: usize = 100;
+
+/// A line whose include is faulty.
+#[derive(Drop)]
+pub struct FaultyInclude {
+    /// The name of the file that has the line.
+    pub file: String,
+    /// The number of the line, counted from 1.
+    pub line: usize,
+    pub fault: IncludeFault,
+}
+
+/// The faulty includes of a source.
+#[derive(Drop)]
+pub struct FaultyIncludes {
+    /// The first hundred, in the order in which they are read.
+    pub first: Vec<FaultyInclude>,
+    /// The number of all that were found.
+    pub count: usize,
+}
+
 /// Why a source is not expanded.
-#[derive(Debug, Drop)]
+#[derive(Drop)]
 pub enum ExpandError {
-    /// A line of a file has this fault.
-    Line {
-        file: String,
-        line: usize,
-        fault: IncludeFault,
-    },
+    /// These includes are faulty, at least one.
+    Includes(FaultyIncludes),
     /// Out of memory.
     Memory,
 }

@@ -6,5 +6,5 @@ mod fault;
 mod folder;
 
 pub use expansion::{Expanded, Folder, expand, has_include};
-pub use fault::{ExpandError, IncludeFault, ReadFault};
+pub use fault::{ExpandError, FaultyInclude, FaultyIncludes, IncludeFault, ReadFault};
 pub use folder::{DiskFolder, name_of_path, path_beside};

@@ -8,6 +8,7 @@ pub mod Merge
 pub mod Modules
 pub mod Parity
 pub mod Patch
+pub mod Reached
 pub mod Reading
 pub mod Repair
 pub mod WordDiff

@@ -13,6 +13,7 @@ use Rattle.agc_listing.specs.Place.{place_text}
 use Rattle.agc_mend.specs.BankSum.{bank_sum, bank_word, fit_of, word_sum}
 use Rattle.agc_mend.specs.Woven.{has_words}
 use Rattle.agc_mend.specs.Legal.{is_legal}
+use Rattle.agc_mend.specs.Reached.{is_next_reached}
 use Rattle.agc_mend.specs.declared.bank_sum.SumFit.{SumFit}
 use Rattle.agc_mend.specs.declared.bank_sum.SumFit.TheVariants as fit
 use Rattle.agc_mend.specs.declared.parity.BadWord.{BadWord}
@@ -57,12 +58,12 @@ points count true = count
 points count false = 0
 
 -- How plausible a word is at a place, from 0 to 15: above all, the sum of its bank fits; next, it is legal there; next,
--- it is elsewhere too; last, the word after it is legal.
+-- it is elsewhere too; last, the word after it is legal and can be reached.
 unfoldable pub plausibility_of : List Number → ℕ → Bool → Number → ℕ
 plausibility_of words place extracode word =
     points 8 (makes_sum_fit words place word) + points 4 (is_legal words place extracode word)
     + points 2 (stands_elsewhere fixed_words words place word)
-    + points 1 (is_next_legal words place extracode word)
+    + points 1 (is_next_legal words place extracode word && is_next_reached words place extracode word)
 
 -- how many of a word's sixteen single-bit repairs make the sum of its bank right
 unfoldable pub fitting_repairs : List Number → BadWord → ℕ

@@ -7,13 +7,13 @@ mod bank_sum;
 mod banks;
 mod bit_change;
 mod check_words;
-mod column_lines;
 mod columns;
 mod legal;
 mod merging;
 mod modules;
 mod parity;
 mod patch;
+mod reached;
 mod reading;
 mod repair;
 mod repair_lines;
@@ -27,7 +27,6 @@ pub use bank_sum::{
 pub use banks::{NO_BANK, with_banks, words_of_banks};
 pub use bit_change::{BitChange, undo_bit_change};
 pub use check_words::{check_word, check_words_make_sums_right};
-pub use column_lines::{ColumnRepairs, repairs_of_columns};
 pub use columns::{
     HALF_BANK, HALF_BANKS, MODULE, column_of, column_repairs, columns_of, explain_most, used_in,
     wrong_in,

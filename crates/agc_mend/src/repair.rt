@@ -2,6 +2,7 @@
 ghost use Rattle.std.specs.Prelude.{◌≡◌, ◌<◌, ◌≤◌, ◌+◌, ◌*◌, ◌/◌, ◌==◌, IfOk, filter};
 ghost use Rattle.agc_store.specs.Places.{fixed_bank_size, fixed_banks, fixed_words};
 ghost use Rattle.agc_mend.specs.Legal.{is_legal};
+ghost use Rattle.agc_mend.specs.Reached.{is_next_reached};
 ghost use Rattle.agc_mend.specs.Repair.{
   are_sums_usual,
   fits,
@@ -28,6 +29,7 @@ ghost use Rattle.agc_mend.specs.Repair.{
 use crate::bank_sum::{SumFit, fit_of, sum_of_bank, word_sum};
 use crate::legal::{is_extracode_at, is_legal};
 use crate::parity::BadWord;
+use crate::reached::is_next_reached;
 use crate::woven::has_words;
 use agc_listing::{leads_on, next_is_extracode};
 use agc_store::Store;
@@ -62,7 +64,7 @@ pub struct Repair {
     /// Whether the word is legal at its place as an order.
     pub is_legal: bool,
     /// How plausible the word is at its place. The sum of its bank fits: 8. It is legal there: 4. It is at another
-    /// place too: 2. The word after it is legal: 1.
+    /// place too: 2. The word after it is legal and can be reached: 1.
     pub plausibility: u8,
     pub sureness: Sureness,
 }
@@ -261,7 +263,11 @@ fn plausibility_of(store: &Store, place: usize, extracode: bool, word: Narrow) -
             2,
             stands_elsewhere(store, place, word, FIXED_WORDS as usize),
         )
-        + points(1, is_next_legal(store, place, extracode, word))
+        + points(
+            1,
+            is_next_legal(store, place, extracode, word)
+                && is_next_reached(store, place, extracode, word),
+        )
 }
 
 fn points(count: u8, is_given: bool) -> u8

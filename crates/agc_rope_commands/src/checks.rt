@@ -233,6 +233,14 @@ pub fn check_listing_file<L: Read>(
     }
 }
 
+/// Checks a source, however long it is.
+pub(crate) fn check_source(alloc: Global, source: &[u8]) -> Result<CheckedListing, AllocError> {
+    Ok(CheckedListing {
+        report: check_listing(alloc, source)?,
+        remarks: remarks_on(alloc, source)?,
+    })
+}
+
 /// Returns the remarks on the lines of a source.
 fn remarks_on(alloc: Global, source: &[u8]) -> Result<String, AllocError> {
     let mut remarks = erase_remarks(alloc, source)?;

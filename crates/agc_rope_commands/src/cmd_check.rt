@@ -7,8 +7,8 @@ ghost use Rattle.agc_run_commands.specs.Ended.{EndsWith};
 ghost use Rattle.agc_run_commands.specs.Fault.{IsReported};
 
 use crate::checks::{
-    CheckedListing, check_key_file, check_listing_file, check_rope_file, check_with, joined,
-    report_on_rope,
+    CheckedListing, check_key_file, check_listing_file, check_rope_file, check_source, check_with,
+    joined, report_on_rope,
 };
 use crate::included::{expanded_source, in_files, report_include};
 use crate::rope_pages::{check_page_path, write_rope_page};
@@ -21,7 +21,7 @@ use agc_load::LoadFault;
 use agc_run_commands::{AnalysisFault, Streams, report_fault};
 use agc_store::RopeForm;
 use agc_study_args::{CheckArgs, RunInputs, open_file, open_run};
-use std::alloc::Global;
+use std::alloc::{AllocError, Global};
 use std::io::{Read, Write};
 use std::rt::Files;
 
@@ -198,35 +198,24 @@ where
         Ok(expanded) => expanded,
         Err(fault) => return Err(report_include(fault, &mut io.err)),
     };
-    let mut text = expanded.text();
-    match checked_in_files(rt.alloc(), &expanded, &mut text) {
+    match checked_in_files(rt.alloc(), &expanded) {
         Ok(checked) => {
             let _written = io.remarks.write_all(checked.remarks.as_bytes());
             Ok(Some(checked.report))
         }
-        Err(fault) => Err(fault.report_to(&mut io.err)),
+        Err(_) => Err(NO_MEMORY.report_to(&mut io.err)),
     }
 }
 
-/// Checks an expanded source, and names files and lines.
-fn checked_in_files(
-    alloc: Global,
-    expanded: &Expanded,
-    text: &mut &[u8],
-) -> Result<CheckedListing, AnalysisFault> {
-    let CheckedListing { report, remarks } = check_listing_file(alloc, text)?;
-    let (Ok(text), Ok(remarks)) = (
-        in_files(alloc, expanded, report.text.as_str()),
-        in_files(alloc, expanded, remarks.as_str()),
-    ) else {
-        return Err(NO_MEMORY);
-    };
+/// Checks an expanded source, however long it is, and names files and lines.
+fn checked_in_files(alloc: Global, expanded: &Expanded) -> Result<CheckedListing, AllocError> {
+    let CheckedListing { report, remarks } = check_source(alloc, expanded.text())?;
     Ok(CheckedListing {
         report: Report {
-            text,
+            text: in_files(alloc, expanded, report.text.as_str())?,
             is_sound: report.is_sound,
         },
-        remarks,
+        remarks: in_files(alloc, expanded, remarks.as_str())?,
     })
 }
 

@@ -2,6 +2,7 @@
 ghost use Rattle.std.specs.Prelude.{◌≡◌, ◌≢◌, ◌%◌, length};
 ghost use Rattle.agc_run_commands.specs.Ended.{EndsWith};
 
+use crate::column_lines::{ColumnRepairs, repairs_of_columns};
 use crate::rope_bytes::{WrittenRope, patched_rope, read_banks, written_rope};
 use agc_check::{
     Damage, FileRepairs, MOST_REPAIRED, file_repairs, push_reading, push_stuck, push_sum_line,
@@ -10,8 +11,8 @@ use agc_io::{OK, ROPE_BYTES, TEXT_BYTES, status_of, write_in_full};
 use agc_listing::push_rope_place;
 use agc_load::LoadFault;
 use agc_mend::{
-    BadWord, BitChange, ColumnRepairs, bad_words, damaged_store, explain_most, file_words,
-    may_be_modules, repairs_of_columns, sum_in_bank,
+    BadWord, BitChange, bad_words, damaged_store, explain_most, file_words, may_be_modules,
+    sum_in_bank,
 };
 use agc_run_commands::{AnalysisFault, Streams};
 use agc_store::RopeForm;
@@ -107,7 +108,7 @@ fn converted_text(
 /// Appends the words whose parity bits were made right: their number, and the first twenty or all.
 fn push_mended(text: &mut String, mended: &[BadWord], shows_all: bool) -> Result<(), AllocError> {
     let count = mended.len();
-    writeln!(text, "; made {count} parity bits right")?;
+    writeln!(text, "; parity bits made right: {count}")?;
     let most = if shows_all { count } else { MOST_MENDED };
     for bad in mended.iter().take(most) {
         let (word, parity) = (word_of(bad.word), bad.word % 2);

@@ -3,11 +3,11 @@ ghost use Rattle.std.specs.Prelude.{◌≡◌, ◌⊎◌};
 
 use crate::source_faults::push_line;
 use agc_asm::AssemblyFault;
-use agc_include::{DiskFolder, ExpandError, Expanded, expand, name_of_path};
+use agc_include::{DiskFolder, ExpandError, Expanded, FaultyIncludes, expand, name_of_path};
 use agc_io::status_of;
 use agc_run_commands::{AnalysisFault, FAULTY};
 use std::alloc::{AllocError, Global};
-use std::io::Write;
+use std::io::{self, Write};
 use std::rt::Files;
 
 /// The ends of sentences that name another line.
@@ -26,17 +26,31 @@ where
     expand(rt.alloc(), &mut folder, name_of_path(path), source)
 }
 
-/// Reports a faulty include and returns the exit status.
+/// Reports why a source is not expanded, and returns the exit status.
 pub fn report_include<E: Write>(fault: ExpandError, err: &mut E) -> u8
     ensures { (result ≡ 2) ⊎ (result ≡ 3) }
 {
     match fault {
-        ExpandError::Line { file, line, fault } => status_of(
-            FAULTY,
-            writeln!(err, "agc-study: {file} line {line}: {fault}"),
-        ),
+        ExpandError::Includes(faults) => status_of(FAULTY, write_includes(&faults, err)),
         ExpandError::Memory => AnalysisFault::Text(AssemblyFault::Memory).report_to(err),
     }
+}
+
+/// Writes a line for each of the first faulty includes, and the number of all if there are several.
+fn write_includes<E: Write>(faults: &FaultyIncludes, err: &mut E) -> io::Result<()> {
+    for faulty in faults.first.iter() {
+        let line = faulty.line;
+        writeln!(
+            err,
+            "agc-study: {} line {line}: {}",
+            faulty.file, faulty.fault
+        )?;
+    }
+    if faults.count > 1 {
+        let count = faults.count;
+        writeln!(err, "agc-study: faults: {count}, in {count} lines")?;
+    }
+    Ok(())
 }
 
 /// Returns a text about an expanded source with the file and its line for each line that the text numbers: `text line
@@ -60,7 +74,7 @@ fn push_located(text: &mut String, source: &Expanded, line: &str) -> Result<(), 
             if begin.starts_with("agc-study") {
                 text.push_str("agc-study: ")?;
             }
-            push_line(text, Some(source), number.parse().unwrap_or(0))?;
+            push_line(text, source, number.parse().unwrap_or(0))?;
             text.push_str(":")?;
             return text.push_str(rest);
         }
@@ -69,7 +83,7 @@ fn push_located(text: &mut String, source: &Expanded, line: &str) -> Result<(), 
         if let Some((rest, number)) = line.split_once(end) {
             text.push_str(rest)?;
             text.push_str(end.strip_suffix("line ").unwrap_or(end))?;
-            return push_line(text, Some(source), number.parse().unwrap_or(0));
+            return push_line(text, source, number.parse().unwrap_or(0));
         }
     }
     text.push_str(line)

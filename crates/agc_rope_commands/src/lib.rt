@@ -6,6 +6,7 @@ mod checks;
 mod cmd_check;
 mod cmd_merge;
 mod cmd_restore;
+mod column_lines;
 mod convert_fault;
 mod full_list;
 mod included;

@@ -31,7 +31,7 @@ pub fn push_bank_changes(
             any = true;
             writeln!(
                 text,
-                "agc-study: bank {bank:02o}: {changed} words changed, {lost} of them are none now"
+                "agc-study: bank {bank:02o}: words changed: {changed}, now without a word: {lost}"
             )?;
         }
     }

@@ -2,8 +2,9 @@
 //! moved or changed bit by bit.
 use crate::bank_list::{push_banks, push_list};
 use crate::bank_sums::{
-    BANKS, RopeBits, WordsRead, has_last_bit, has_same_words, has_wrong_parity, is_first_empty,
-    is_first_named, is_used, is_used_read, looks_inverted, may_be_inverted, number_of, sum_read,
+    BANKS, RopeBits, SIZE, WordsRead, bits_at, has_last_bit, has_same_words, has_wrong_parity,
+    is_first_empty, is_first_named, is_used, is_used_read, looks_inverted, may_be_inverted,
+    number_of, sum_read,
 };
 use agc_mend::{NO_BANK, SumFit, fit_of};
 use agc_store::RopeForm;
@@ -15,6 +16,7 @@ const MODULE_BANKS: usize = 6;
 /// What is known of each bank of a rope.
 #[derive(Drop)]
 struct Banks {
+    form: RopeForm,
     /// Whether it has two different words.
     used: Vec<bool>,
     /// The bank whose number its sum is, or whose complement.
@@ -34,13 +36,13 @@ pub(crate) fn push_bank_patterns(
     rope: &RopeBits,
 ) -> Result<(), AllocError> {
     let banks = banks_of(alloc, form, rope)?;
-    match first_bank(form, rope, &banks) {
+    match first_bank(rope, &banks) {
         Some((first, count)) if !is_placed => push_first_bank(text, first, count)?,
-        _ => push_moved(alloc, text, form, &banks)?,
+        _ => push_moved(alloc, text, rope, &banks)?,
     }
     push_twice(alloc, text, rope, &banks)?;
     if !is_any_moved(&banks) {
-        push_missing(text, &banks)?;
+        push_missing(text, rope, &banks)?;
     }
     for read in [
         WordsRead::Reversed,
@@ -50,13 +52,14 @@ pub(crate) fn push_bank_patterns(
         WordsRead::Inverted,
         WordsRead::WordInverted,
     ] {
-        push_changed(text, form, rope, &banks, read)?;
+        push_changed(text, rope, &banks, read)?;
     }
     Ok(())
 }
 
 fn banks_of(alloc: Global, form: RopeForm, rope: &RopeBits) -> Result<Banks, AllocError> {
     let mut banks = Banks {
+        form,
         used: Vec::new(alloc),
         named: Vec::new(alloc),
         held: Vec::new(alloc),
@@ -218,10 +221,10 @@ fn is_at(list: &[bool], bank: usize) -> bool {
 
 /// Returns the bank with which the file begins and how many banks show it, if the sum of each of its banks is the number of a
 /// bank equally far on. The sum of a single bank shows it only if the bank has parity bits, all of them right.
-fn first_bank(form: RopeForm, rope: &RopeBits, banks: &Banks) -> Option<(usize, usize)> {
+fn first_bank(rope: &RopeBits, banks: &Banks) -> Option<(usize, usize)> {
     let mut first = None;
     let mut count = 0usize;
-    let mut is_sound = form == RopeForm::Parity;
+    let mut is_sound = banks.form == RopeForm::Parity;
     for bank in 0..BANKS {
         if is_at(banks.used.as_slice(), bank) {
             let there = other_named(banks, bank)?.checked_sub(bank)?;
@@ -251,7 +254,7 @@ fn push_first_bank(text: &mut String, first: usize, count: usize) -> Result<(), 
 fn push_moved(
     alloc: Global,
     text: &mut String,
-    form: RopeForm,
+    rope: &RopeBits,
     banks: &Banks,
 ) -> Result<(), AllocError> {
     let mut told = vec![in alloc; false; BANKS]?;
@@ -262,7 +265,7 @@ fn push_moved(
             if !is_at(told.as_slice(), bank) {
                 any = true;
                 if at(banks.held.as_slice(), other) == Some(bank) {
-                    push_exchanged(text, bank, other)?;
+                    push_exchanged(text, rope, bank, other)?;
                     tell(&mut told, other);
                 } else {
                     push_run(text, banks, &mut told, bank, other)?;
@@ -271,7 +274,7 @@ fn push_moved(
         }
     }
     if any && !is_any_lost(banks) {
-        push_mend(text, form, banks)
+        push_mend(text, banks)
     } else {
         Ok(())
     }
@@ -295,10 +298,16 @@ fn tell(told: &mut Vec<bool>, bank: usize) {
     }
 }
 
-fn push_exchanged(text: &mut String, bank: usize, other: usize) -> Result<(), AllocError> {
+fn push_exchanged(
+    text: &mut String,
+    rope: &RopeBits,
+    bank: usize,
+    other: usize,
+) -> Result<(), AllocError> {
+    let (words, others) = (words_in(rope, bank, 1), words_in(rope, other, 1));
     writeln!(
         text,
-        "exchanged: banks {bank:02o} and {other:02o}; the sum of each is the number of the other (likely)"
+        "exchanged: banks {bank:02o} and {other:02o}, {words} and {others} words; the sum of each is the number of the other (likely)"
     )
 }
 
@@ -347,13 +356,13 @@ fn push_run(
 }
 
 /// Appends the command that puts each moved bank into its place. A bank whose words are in no place gets none.
-fn push_mend(text: &mut String, form: RopeForm, banks: &Banks) -> Result<(), AllocError> {
+fn push_mend(text: &mut String, banks: &Banks) -> Result<(), AllocError> {
     let alloc = *text.allocator();
     let mut list = Vec::new(alloc);
     for bank in 0..BANKS {
         list.push(source_of(banks, bank))?;
     }
-    let name = name_of(form);
+    let name = name_of(banks.form);
     write!(
         text,
         "    mended by: convert ROPE --form {name} --to {name} --banks "
@@ -395,12 +404,16 @@ fn push_twice(
     for module in 0..MODULE_BANKS {
         for before in 0..module {
             if are_same_modules(rope, banks, before, module) {
-                push_modules(text, banks, before, module)?;
-                for at in 0..MODULE_BANKS {
-                    tell(
-                        &mut told,
-                        module.saturating_mul(MODULE_BANKS).saturating_add(at),
-                    );
+                let (first, second) = (before.saturating_add(1), module.saturating_add(1));
+                write!(text, "twice: module {second}, banks ")?;
+                let before = before.saturating_mul(MODULE_BANKS);
+                let after = module.saturating_mul(MODULE_BANKS);
+                push_banks(text, after, MODULE_BANKS)?;
+                write!(text, ", has the words of module {first}, banks ")?;
+                push_banks(text, before, MODULE_BANKS)?;
+                push_whose(text, rope, banks, before, after, MODULE_BANKS)?;
+                for bank in after..after.saturating_add(MODULE_BANKS) {
+                    tell(&mut told, bank);
                 }
             }
         }
@@ -408,7 +421,11 @@ fn push_twice(
     for bank in 0..BANKS {
         for before in 0..bank {
             if !is_at(told.as_slice(), bank) && is_copy(rope, banks, before, bank) {
-                push_copies(text, banks, before, bank)?;
+                write!(
+                    text,
+                    "twice: bank {bank:02o} has the words of bank {before:02o}"
+                )?;
+                push_whose(text, rope, banks, before, bank, 1)?;
                 tell(&mut told, bank);
             }
         }
@@ -437,62 +454,56 @@ fn are_same_modules(rope: &RopeBits, banks: &Banks, before: usize, module: usize
     same >= 2
 }
 
-fn push_modules(
-    text: &mut String,
-    banks: &Banks,
-    before: usize,
-    module: usize,
-) -> Result<(), AllocError> {
-    let (first, second) = (before.saturating_add(1), module.saturating_add(1));
-    write!(text, "twice: module {second}, banks ")?;
-    push_banks(text, module.saturating_mul(MODULE_BANKS), MODULE_BANKS)?;
-    write!(text, ", has the words of module {first}, banks ")?;
-    push_banks(text, before.saturating_mul(MODULE_BANKS), MODULE_BANKS)?;
-    text.push_str(" (certain)")?;
-    push_whose(
-        text,
-        banks,
-        before.saturating_mul(MODULE_BANKS),
-        module.saturating_mul(MODULE_BANKS),
-        MODULE_BANKS,
-    )
-}
-
-fn push_copies(
-    text: &mut String,
-    banks: &Banks,
-    before: usize,
-    bank: usize,
-) -> Result<(), AllocError> {
-    write!(
-        text,
-        "twice: bank {bank:02o} has the words of bank {before:02o} (certain)"
-    )?;
-    push_whose(text, banks, before, bank, 1)
-}
-
-/// Appends which of two equal parts has right sums.
+/// Appends the number of words of two equal parts, which of the two has right sums, and the commands that put the words of the
+/// other one back. A part is `count` banks, from `before` and from `after` on.
 fn push_whose(
     text: &mut String,
+    rope: &RopeBits,
     banks: &Banks,
     before: usize,
     after: usize,
     count: usize,
 ) -> Result<(), AllocError> {
+    let words = words_in(rope, before, count);
+    write!(text, ", {words} words (certain)")?;
     if has_own(banks, before, count) {
-        text.push_str(
-            "; the sums are right for the latter: put the words of the former back by patch --banks ",
-        )?;
-        push_banks(text, after, count)?;
+        text.push_str("; the sums are right for the latter\n")?;
+        push_put_back(text, banks.form, after, count)
     } else if has_own(banks, after, count) {
-        text.push_str(
-            "; the sums are right for the former: put the words of the latter back by patch --banks ",
-        )?;
-        push_banks(text, before, count)?;
+        text.push_str("; the sums are right for the former\n")?;
+        push_put_back(text, banks.form, before, count)
     } else {
-        text.push_str("; no sum shows which is right")?;
+        text.push_str("; no sum shows which is right\n")
     }
-    text.push_str("\n")
+}
+
+/// Appends the commands that put some banks of another dump, DUMP, into a rope.
+fn push_put_back(
+    text: &mut String,
+    form: RopeForm,
+    first: usize,
+    count: usize,
+) -> Result<(), AllocError> {
+    let name = name_of(form);
+    write!(
+        text,
+        "    mended by: convert DUMP --form {name} --to {name} --banks "
+    )?;
+    push_banks(text, first, count)?;
+    text.push_str(" > banks, and patch ROPE banks --banks ")?;
+    push_banks(text, first, count)?;
+    writeln!(text, " --form {name}")
+}
+
+/// Returns how many places of some banks have a word.
+fn words_in(rope: &RopeBits, first: usize, count: usize) -> usize {
+    let (start, end) = (
+        first.saturating_mul(SIZE),
+        first.saturating_add(count).saturating_mul(SIZE),
+    );
+    (start..end)
+        .filter(|place| bits_at(rope.plain.as_slice(), *place) != 0)
+        .count()
 }
 
 /// Returns whether each used one of these banks has the sum of its number, and one is used.
@@ -513,8 +524,8 @@ fn is_any_moved(banks: &Banks) -> bool {
     banks.held.as_slice().iter().any(|held| held.is_some())
 }
 
-/// Appends a module without words, if all other banks have words.
-fn push_missing(text: &mut String, banks: &Banks) -> Result<(), AllocError> {
+/// Appends a module without words, if all other banks have words, and the commands that put its words in.
+fn push_missing(text: &mut String, rope: &RopeBits, banks: &Banks) -> Result<(), AllocError> {
     let used = banks.used.as_slice();
     for module in 0..MODULE_BANKS {
         let first = module.saturating_mul(MODULE_BANKS);
@@ -522,11 +533,18 @@ fn push_missing(text: &mut String, banks: &Banks) -> Result<(), AllocError> {
         let is_missing = (0..BANKS).all(|bank| is_at(used, bank) != (first <= bank && bank < last));
         if is_missing {
             let number = module.saturating_add(1);
+            let others = words_in(rope, 0, first).saturating_add(words_in(
+                rope,
+                last,
+                BANKS.saturating_sub(last),
+            ));
             write!(text, "missing: module {number}, banks ")?;
             push_banks(text, first, MODULE_BANKS)?;
-            text.push_str(", has no words, and each other bank has some (likely); patch --banks ")?;
-            push_banks(text, first, MODULE_BANKS)?;
-            text.push_str(" puts it in\n")?;
+            writeln!(
+                text,
+                ", has no words, and each other bank has some, {others} in all (likely)"
+            )?;
+            push_put_back(text, banks.form, first, MODULE_BANKS)?;
         }
     }
     Ok(())
@@ -535,7 +553,6 @@ fn push_missing(text: &mut String, banks: &Banks) -> Result<(), AllocError> {
 /// Appends the banks whose words were changed or moved in one way, and the command that mends them.
 fn push_changed(
     text: &mut String,
-    form: RopeForm,
     rope: &RopeBits,
     banks: &Banks,
     read: WordsRead,
@@ -550,10 +567,10 @@ fn push_changed(
     if changed.is_empty() {
         return Ok(());
     }
-    if are_all_changed(form, rope, banks, read) {
-        push_all_changed(text, form, rope, read)
-    } else if shows_change(form, rope, banks, read, changed.as_slice()) {
-        push_banks_changed(text, form, changed.as_slice(), read)
+    if are_all_changed(rope, banks, read) {
+        push_all_changed(text, banks.form, rope, read)
+    } else if shows_change(rope, banks, read, changed.as_slice()) {
+        push_banks_changed(text, banks.form, changed.as_slice(), read)
     } else {
         Ok(())
     }
@@ -561,28 +578,22 @@ fn push_changed(
 
 /// Returns whether some banks, but not all, show a change of their words: of a move by one place at least two, of inverted words
 /// one other than bank 00, whose sum shows nothing, and no other bank that looks inverted.
-fn shows_change(
-    form: RopeForm,
-    rope: &RopeBits,
-    banks: &Banks,
-    read: WordsRead,
-    changed: &[u8],
-) -> bool {
+fn shows_change(rope: &RopeBits, banks: &Banks, read: WordsRead, changed: &[u8]) -> bool {
     match read {
         WordsRead::Later | WordsRead::Earlier => changed.len() >= 2,
         WordsRead::Inverted | WordsRead::WordInverted => {
-            changed.iter().any(|bank| *bank != 0) && !is_other_inverted(form, rope, banks, read)
+            changed.iter().any(|bank| *bank != 0) && !is_other_inverted(rope, banks, read)
         }
         _ => true,
     }
 }
 
 /// Returns whether a bank that is not read in one way looks inverted in that way.
-fn is_other_inverted(form: RopeForm, rope: &RopeBits, banks: &Banks, read: WordsRead) -> bool {
+fn is_other_inverted(rope: &RopeBits, banks: &Banks, read: WordsRead) -> bool {
     for bank in 0..BANKS {
         let is_other = is_at(banks.used.as_slice(), bank)
             && at(banks.read.as_slice(), bank) != Some(read);
-        if is_other && looks_inverted(form, rope.plain.as_slice(), bank, read) {
+        if is_other && looks_inverted(banks.form, rope.plain.as_slice(), bank, read) {
             return true;
         }
     }
@@ -638,12 +649,12 @@ fn push_banks_changed(
 
 /// Returns whether the sums of all used banks, at least two, are right if their words are read in one way. A bank that lost a
 /// word by the move does not count.
-fn are_all_changed(form: RopeForm, rope: &RopeBits, banks: &Banks, read: WordsRead) -> bool {
-    let cut = bank_cut(form, read);
+fn are_all_changed(rope: &RopeBits, banks: &Banks, read: WordsRead) -> bool {
+    let cut = bank_cut(banks.form, read);
     let mut used = 0usize;
     for bank in 0..BANKS {
         if is_used_read(rope, bank, read) && (cut != Some(bank) || has_sum(rope, bank, read)) {
-            if !may_be_changed(form, rope, banks, bank, read) {
+            if !may_be_changed(rope, banks, bank, read) {
                 return false;
             }
             used = used.saturating_add(1);
@@ -657,19 +668,13 @@ fn has_sum(rope: &RopeBits, bank: usize, read: WordsRead) -> bool {
 }
 
 /// Returns whether the words of a bank may have been changed in one way, as those of other banks were.
-fn may_be_changed(
-    form: RopeForm,
-    rope: &RopeBits,
-    banks: &Banks,
-    bank: usize,
-    read: WordsRead,
-) -> bool {
+fn may_be_changed(rope: &RopeBits, banks: &Banks, bank: usize, read: WordsRead) -> bool {
     let is_changed = at(banks.read.as_slice(), bank) == Some(read);
     match read {
         WordsRead::Inverted | WordsRead::WordInverted => {
             is_changed
                 || fits_inverted(bank, fit_in(rope, bank, WordsRead::Plain))
-                    && may_be_inverted(form, rope.plain.as_slice(), bank, read)
+                    && may_be_inverted(banks.form, rope.plain.as_slice(), bank, read)
         }
         WordsRead::Later => {
             is_changed || is_first_empty(rope.plain.as_slice(), bank) && has_sum(rope, bank, read)

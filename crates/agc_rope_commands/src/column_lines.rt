@@ -1,17 +1,14 @@
 //! Prints the repairs of stuck columns as lines of a patch.
 ghost use Rattle.std.specs.Prelude.{◌≡◌, ◌%◌, length};
 
-use crate::columns::column_repairs;
-use crate::parity::{bad_words, damaged_store};
-use crate::repair_lines::push_repair_line;
-use crate::rope_bytes::file_words;
+use agc_mend::{bad_words, column_repairs, damaged_store, file_words, push_repair_line};
 use agc_store::RopeForm;
 use agc_store::place::FIXED_WORDS;
 use std::alloc::{AllocError, Global};
 
 /// The repairs of the words with wrong parity that are in stuck columns.
 #[derive(Drop)]
-pub struct ColumnRepairs {
+pub(crate) struct ColumnRepairs {
     /// The lines of a patch.
     pub text: String,
     /// The number of words with wrong parity in the whole file.
@@ -22,7 +19,7 @@ pub struct ColumnRepairs {
 
 /// Returns the repairs of exactly the words with wrong parity that are in stuck columns of a file in the form with parity.
 /// Fails if out of memory.
-pub fn repairs_of_columns(alloc: Global, file: &[u8]) -> Result<ColumnRepairs, AllocError>
+pub(crate) fn repairs_of_columns(alloc: Global, file: &[u8]) -> Result<ColumnRepairs, AllocError>
     requires { length file.now % 2 ≡ 0 }
 {
     let words = file_words(alloc, file)?;
