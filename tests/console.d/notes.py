@@ -1,4 +1,4 @@
-"""Notes behind the answers: source lines, quantities and the display in words; and short forms of commands at a terminal."""
+"""Notes behind the answers: source lines, operands, quantities and the display in words; and short forms of commands at a terminal."""
 
 import os
 import pty
@@ -48,6 +48,8 @@ def try_listing():
     noted = {"4000": " # two.agc 3: START   CA      THREE   # into A", "4001": " # two.agc 4:         TC      START"}
     wanted = [line + noted.get(place_in(line), "") for line in plain]
     judge("a session with a listing", (0, wanted, []), answered(commands, rope, os.devnull, "--listing", listing))
+    named = answered("step 2\n", rope, os.devnull, "--listing", listing, "--names", file_with("two.names", "4000 START\n4002 THREE\n"))[1]
+    judge("a source line takes the place of an operand's name", [noted["4000"], noted["4001"]], [line[line.index(" #") :] for line in named[:2]])
     # one behind next, two behind step 2, one behind where
     judge("notes that the listing makes", 4, sum(line != other for line, other in zip(plain, wanted)))
     other = "agc-console: listing: it is not of this rope: at 02,4000 it has 34002, and the rope 14000"
@@ -135,6 +137,84 @@ def try_cells():
     commands = "print TICK\nprint 100 2\nprint ZN 2\nprint TICK 3\ncell TICK\nbreak LOOP+2\nwatch TICK\nbreak write 10\n"
     status, lines, _ = answered(pokes + commands, *with_names)
     judge("cells and breakpoints by name", (0, wanted), (status, [line for line in lines if not line.startswith("at ")]))
+
+
+# 4010 puts 3 into EB, 4012 puts 5 into FB, 4013 puts 30 into FB: the superbank counts with that.
+ORDERS = """4000 34010
+4001 54003
+4002 55406
+4003 55410
+4004 34012
+4005 54004
+4006 12100
+4010 01400
+4012 12000
+4013 60000
+05,2100 00006
+05,2101 01010
+05,2102 53411
+05,2103 34013
+05,2104 54004
+30,2104 00000
+30,2105 14020
+4020 12110
+30,2110 12111
+30,2111 00006
+30,2112 07000
+"""
+# The second line has what is at the same address in another bank.
+NAMED_BY_ORDERS = """4000 START
+E2,1010 WRONG
+E3,1406 LOW
+E3,1410 FLAGS
+05,2100 FAR
+30,2110 HIGH
+40,2110 HIGHER
+C000 NONE
+C010 OUT0
+"""
+# Each order, and its note. In double words the upper one has the name: the word of DXCH has the address of the lower.
+NOTED = [
+    ("4000 START        34010 CA 4010", "CA START +8"), ("4001 START +1     54003 TS 0003", ""),
+    # it may have written EB itself, if bank 0 was there before it
+    ("4002 START +2     55406 TS 1406", ""), ("4003 START +3     55410 TS 1410", "TS FLAGS"),
+    ("4004 START +4     34012 CA 4012", "CA START +10"), ("4005 START +5     54004 TS 0004", ""),
+    ("4006 START +6     12100 TCF 2100", "TCF FAR"), ("05,2100 FAR          00006 EXTEND", ""),
+    ("05,2101 FAR +1       01010 WRITE 010 > 010 12000", ""), ("05,2102 FAR +2       53411 DXCH 1410", "DXCH FLAGS"),
+    ("05,2103 FAR +3       34013 CA 4013", "CA START +11"), ("05,2104 FAR +4       54004 TS 0004", ""),
+    # from bank 02 only the superbank says whether 2110 is in bank 30 or 40; from bank 30 it is sure
+    ("30,2105              14020 TCF 4020", "TCF START +16"), ("4020 START +16    12110 TCF 2110", ""),
+    ("30,2110 HIGH         12111 TCF 2111", "TCF HIGH +1"), ("30,2111 HIGH +1      00006 EXTEND", ""),
+    ("30,2112 HIGH +2      07000 EDRUPT 000", ""),
+]
+
+
+def woven_orders():
+    """The path of the rope of ORDERS."""
+    rope = os.path.join(scratch, "orders.rope")
+    with open(rope, "wb") as out:
+        subprocess.run([STUDY, "weave", file_with("orders", ORDERS)], stdout=out, check=True)
+    return rope
+
+
+def try_operands():
+    """The order with its operand by its name behind `next`, `step` and `ahead`, if the line tells which place it is."""
+    rope, names = woven_orders(), file_with("order-names", NAMED_BY_ORDERS)
+    with_names, with_notes = [rope, os.devnull, "--names", names], ["--nouns", file_with("no-nouns", "")]
+    shown = lambda line: (re.sub(r"^\d+ ", "", line.split(" | ")[0].split(" # ")[0]), line.partition(" # ")[2])
+    count = len(NOTED)
+    for command in ("step", "ahead"):
+        status, lines, _ = answered(f"{command} {count}\n", *with_names, *with_notes)
+        judge(f"the orders of {command}", (0, NOTED), (status, [shown(line) for line in lines[:count]]))
+    coming = {4: "CA START +10", 5: "", 6: "", 10: "CA START +11", 14: "TCF HIGH +1"}  # before 6, 2100 may be in any bank
+    for steps, note in coming.items():
+        wanted = f"next {NOTED[steps][0].split(' > ')[0]}" + (f" # {note}" if note else "")
+        judge(f"next after {steps}", wanted, answered(f"step {steps}\nnext\n", *with_names, *with_notes)[1][-2])
+    plain = answered(f"step {count}\nnext\n", *with_names)[1]
+    judge("names alone make no notes in a pipe", [], [line for line in plain if "#" in line])
+    at_terminal = answered(f"step {count}\n", *with_names, "--terminal")[1]
+    judge("names alone make them at a terminal", NOTED, [shown(line) for line in at_terminal if " | " in line])
+    judge("no names, no notes", [], [line for line in answered(f"step {count}\n", rope, os.devnull, *with_notes)[1] if "#" in line])
 
 
 def amount_of(shown, worth, unit):
@@ -283,5 +363,6 @@ def try_notes():
     try_listing()
     try_quantities()
     try_cells()
+    try_operands()
     try_nouns()
     try_short_forms()

@@ -24,7 +24,8 @@ from walks import walk
 agc, study, console, top, scratch = AGC, STUDY, CONSOLE, TOP, scratch_folder()
 only_calls = sys.argv[1:2] == ["calls"]
 seeds = [int(seed) for seed in sys.argv[1 + only_calls :]] or range(500 if only_calls else 200)
-CALLING = 40  # the first seeds, of whose sessions one steps by calls
+# The seeds whose sessions step by calls: with those of the others a filter over traces follows 500 sessions.
+calling = seeds if sys.argv[1:] else range(300)
 
 LAST_CYCLE = 1_000_000_000_000
 TABLES = "0,100,4,0,100,0,200"
@@ -477,21 +478,28 @@ def try_an_hour_back():
     judge("the end of an hour", (b"", 0), session.close())
 
 
-for each in seeds:
-    try:
-        if only_calls or each < CALLING or len(sys.argv) > 1:
-            search(console, study, "", "", random.Random(f"calls {each}"), an_event, scratch, by_calls=True)
-        if only_calls:
-            continue
-        try_seed(each)
-        dice = random.Random(-1 - each)
-        walk(console, study, files_of(dice, each)[0], dice, an_event, scratch)
-        rope, script = files_of(dice, each)
-        search(console, study, rope, script, dice, an_event, scratch)
-        if each < REPLAYS or len(sys.argv) > 1:
-            try_replay(each, random_rope, an_event)
-    except (EOFError, IndexError, subprocess.CalledProcessError) as error:
-        judge(f"seed {each}", "answers", repr(error))
+def try_calls(each):
+    """A session of a seed that mostly steps by calls."""
+    search(console, study, "", "", random.Random(f"calls {each}"), an_event, scratch, by_calls=True)
+
+
+def try_sessions(each):
+    """The other sessions of a seed."""
+    try_seed(each)
+    dice = random.Random(-1 - each)
+    walk(console, study, files_of(dice, each)[0], dice, an_event, scratch)
+    rope, script = files_of(dice, each)
+    search(console, study, rope, script, dice, an_event, scratch)
+    if each < REPLAYS or len(sys.argv) > 1:
+        try_replay(each, random_rope, an_event)
+
+
+for follow, numbers in ((try_calls, calling), (try_sessions, () if only_calls else seeds)):
+    for number in numbers:
+        try:
+            follow(number)
+        except (EOFError, IndexError, subprocess.CalledProcessError) as error:
+            judge(f"seed {number}", "answers", repr(error))
 if len(sys.argv) == 1:
     try_kinds()
     depends_on_time()

@@ -24,15 +24,15 @@ DARK = {"VERB": "__", "NOUN": "__"}
 # The rope SENDS has written PROG 12 twice, and jumps to itself.
 SENT = {**BLANK, "PROG": "12"}
 REGISTERS = "A 154171 L 00000 Q 000000 Z 5006 EB 0 FB 00"
-# Its last boundaries, with names, before it stops at cycle 11: two turns of the loop are one line.
+# Its last boundaries, with names, before it stops at cycle 11: two turns of the loop are one line. 5020 is 13 octal beyond 5005.
 LAST = [
-    " 0 4000 START        15000 TCF 5000 | A 000000 L 00000 Q 000000 Z 5001 EB 0 FB 00",
-    " 1 5000 SEND         35020 CA 5020 | A 154171 L 00000 Q 000000 Z 5002 EB 0 FB 00",
+    " 0 4000 START        15000 TCF SEND | A 000000 L 00000 Q 000000 Z 5001 EB 0 FB 00",
+    " 1 5000 SEND         35020 CA IDLE +11 | A 154171 L 00000 Q 000000 Z 5002 EB 0 FB 00",
     " 3 5001 SEND +1      00006 EXTEND | A 154171 L 00000 Q 000000 Z 5003 EB 0 FB 00",
     " 4 5002 SEND +2      01010 WRITE 010 > 010 54171 | A 154171 L 00000 Q 000000 Z 5004 EB 0 FB 00",
     " 6 5003 SEND +3      00006 EXTEND | A 154171 L 00000 Q 000000 Z 5005 EB 0 FB 00",
     f" 7 5004 SEND +4      01010 WRITE 010 > 010 54171 | {REGISTERS}",
-    f" 10 5005 IDLE         15005 TCF 5005 x 2 | {REGISTERS}",
+    f" 10 5005 IDLE         15005 TCF IDLE x 2 | {REGISTERS}",
     f" 11 - stop Limit | {REGISTERS}",
 ]
 INSPECTOR = [*LAST, f" {REGISTERS} BB 00000", " next - stop Limit"]

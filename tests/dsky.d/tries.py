@@ -1297,6 +1297,39 @@ SENDS = "4000 15000\n5000 35020\n5001 00006\n5002 01010\n5003 00006\n5004 01010\
 SENDS += "".join(f"{0o4004 + 4 * vector:o} 50017\n" for vector in range(10))
 
 
+# 4010 puts 3 into EB, 4012 puts 30 into FB: the superbank counts with that.
+SWITCHES = "4000 34010\n4001 54003\n4002 55406\n4003 53411\n4004 34012\n4005 54004\n4006 12100\n4010 01400\n4012 60000\n30,2100 12101\n30,2101 12101\n"
+# E2,1010 and 40,2100 are at the same addresses, in other banks.
+SWITCHED_NAMES = "4000 START\nE2,1010 WRONG\nE3,1406 LOW\nE3,1410 FLAGS\n30,2100 HIGH\n40,2100 HIGHER\n"
+# Each order with its first cycle. CA and TS take two cycles, DXCH three.
+SWITCHED = [
+    "0 4000 START        34010 CA START +8", "2 4001 START +1     54003 TS 0003", "4 4002 START +2     55406 TS LOW",
+    "6 4003 START +3     53411 DXCH FLAGS", "9 4004 START +4     34012 CA START +10", "11 4005 START +5     54004 TS 0004",
+    "13 4006 START +6     12100 TCF HIGH", "14 30,2100 HIGH         12101 TCF HIGH +1", "15 30,2101 HIGH +1      12101 TCF HIGH +1",
+]
+
+
+def try_switched_names():
+    """Operands by their names in switched banks: before an order the machine has the banks; after it a line has EB and FB, which leave
+    open what TS 1406 wrote if that was EB itself, and whether FB 30 was bank 30 or 40."""
+    rope, names = woven("switches", SWITCHES), written("switches.names", SWITCHED_NAMES)
+    terminal = Terminal([rope, "--names", names, "--limit", "1000", "--speed", "max"], (40, 132))
+    try:
+        terminal.begun()
+        terminal.until("no stop", lambda screen: " STOP Limit" in screen.text())
+        terminal.type("i ")
+        goes_to(terminal, b"\x7f", 0)
+        for line, after in zip(SWITCHED, SWITCHED[1:]):
+            cycle, order = line.split(" ", 1)
+            judge(f"what comes at cycle {cycle}", [order], boundaries_on(terminal.screen)[1])
+            goes_to(terminal, ".", int(after.split()[0]))
+        unsure = [line.replace("TS LOW", "TS 1406").replace("TCF HIGH", "TCF 2100") if line.split()[1] in ("4002", "4006") else line for line in SWITCHED]
+        judge("the orders in switched banks", unsure[:-1], [line.split(" | ")[0] for line in boundaries_on(terminal.screen)[0]])
+        judge("switched banks: the end", (0, []), (terminal.quit()[0], terminal.screen.faults))
+    finally:
+        terminal.close()
+
+
 def goes_to(terminal, key, cycle):
     """A key takes a session whose time stands to a cycle."""
     terminal.type(key)
@@ -1319,10 +1352,10 @@ def try_names_and_counts():
         # so at 844800 and after it
         terminal.until("no stop", lambda screen: any("- stop" in line for line in boundaries_on(screen)[0]) and rerun_of(screen) is None)
         judge("the idle loop", [
-            "844799 5005 IDLE         15005 TCF 5005 x 212 | A 154171 L 00000 Q 000000 Z 5006 EB 0 FB 00",
+            "844799 5005 IDLE         15005 TCF IDLE x 212 | A 154171 L 00000 Q 000000 Z 5006 EB 0 FB 00",
             "844800 - timer TIME1 | A 154171 L 00000 Q 000000 Z 5006 EB 0 FB 00",
             "844801 - timer TIME3 | A 154171 L 00000 Q 000000 Z 5006 EB 0 FB 00",
-            "844806 5005 IDLE         15005 TCF 5005 x 5 | A 154171 L 00000 Q 000000 Z 5006 EB 0 FB 00",
+            "844806 5005 IDLE         15005 TCF IDLE x 5 | A 154171 L 00000 Q 000000 Z 5006 EB 0 FB 00",
             "844807 - stop Limit | A 154171 L 00000 Q 000000 Z 5006 EB 0 FB 00",
         ], boundaries_on(terminal.screen)[0][-5:])
         terminal.type(" ")
@@ -1333,19 +1366,19 @@ def try_names_and_counts():
         for cycle in (1, 3, 4, 6, 7, 9, 10, 11):
             goes_to(terminal, ".", cycle)
         judge("the lines with names", [
-            "0 4000 START        15000 TCF 5000 | A 000000 L 00000 Q 000000 Z 5001 EB 0 FB 00",
-            "1 5000 SEND         35020 CA 5020 | A 154171 L 00000 Q 000000 Z 5002 EB 0 FB 00",
+            "0 4000 START        15000 TCF SEND | A 000000 L 00000 Q 000000 Z 5001 EB 0 FB 00",
+            "1 5000 SEND         35020 CA IDLE +11 | A 154171 L 00000 Q 000000 Z 5002 EB 0 FB 00",
             "3 5001 SEND +1      00006 EXTEND | A 154171 L 00000 Q 000000 Z 5003 EB 0 FB 00",
             "4 5002 SEND +2      01010 WRITE 010 > 010 54171 | A 154171 L 00000 Q 000000 Z 5004 EB 0 FB 00",
             "6 5003 SEND +3      00006 EXTEND | A 154171 L 00000 Q 000000 Z 5005 EB 0 FB 00",
             "7 5004 SEND +4      01010 WRITE 010 > 010 54171 | A 154171 L 00000 Q 000000 Z 5006 EB 0 FB 00",
-            "10 5005 IDLE         15005 TCF 5005 x 2 | A 154171 L 00000 Q 000000 Z 5006 EB 0 FB 00",
+            "10 5005 IDLE         15005 TCF IDLE x 2 | A 154171 L 00000 Q 000000 Z 5006 EB 0 FB 00",
         ], boundaries_on(terminal.screen)[0])
-        judge("what comes next", ["5005 IDLE         15005 TCF 5005"], boundaries_on(terminal.screen)[1])
+        judge("what comes next", ["5005 IDLE         15005 TCF IDLE"], boundaries_on(terminal.screen)[1])
         # a key is a boundary between two turns
         terminal.type("4")
         terminal.until("no key", lambda screen: any(" - event key 4 " in line for line in boundaries_on(screen)[0]))
-        judge("a key after two turns", True, " TCF 5005 x 2 |" in boundaries_on(terminal.screen)[0][-2])
+        judge("a key after two turns", True, " TCF IDLE x 2 |" in boundaries_on(terminal.screen)[0][-2])
         judge("names: the end", (0, []), (terminal.quit()[0], terminal.screen.faults))
     finally:
         terminal.close()
@@ -1542,8 +1575,8 @@ def try_lesson():
         judge("R1 before", "_____1", terminal.screen.fields()["R1"])
         terminal.type("i")
         terminal.until("no boundaries", lambda screen: boundaries_on(screen)[0])
-        judge("the order at fault", ["255803 4074 TICK +6      26100 ADS 0100 | A 177777 L 00000 Q 000003 Z 4076 EB 0 FB 00"],
-              [line for line in boundaries_on(terminal.screen)[0] if "ADS 0100" in line])
+        judge("the order at fault", ["255803 4074 TICK +6      26100 ADS LEFT | A 177777 L 00000 Q 000003 Z 4076 EB 0 FB 00"],
+              [line for line in boundaries_on(terminal.screen)[0] if " ADS " in line])
         judge("the lesson: the end", (0, []), (terminal.quit()[0], terminal.screen.faults))
     finally:
         terminal.close()
@@ -1586,7 +1619,7 @@ GROUPS = (
     try_pictures, try_unsaved, try_saving, try_marks, try_waiting_keys, try_fastest, try_remarks, try_full_disk, try_two_sessions,
     try_little_memory, try_last_keys, try_told_names, try_leaving, try_ink, try_no_terminal, try_resizing, try_script,
     try_refusals, try_many_keys, try_going_back, try_a_long_way_back, try_boundaries, try_start, try_speeds,
-    try_slow_speeds, try_names_and_counts, try_source_lines, try_searches, try_long_search, try_ending_a_search_back, try_small_stack,
+    try_slow_speeds, try_names_and_counts, try_switched_names, try_source_lines, try_searches, try_long_search, try_ending_a_search_back, try_small_stack,
     try_lesson, try_names, try_idleness,
 )
 

@@ -161,6 +161,10 @@ def try_traced():
         judge(f"{half} {n}: the first line that is not its operation's", [], wrong[:1])
 
 
+# Those of main.agc, as its lines say: STODL stores in RATE and loads 36D, which cells.agc calls LENGTH.
+OPERATIONS = ["VLOAD RVEC", "VSU SITE", "UNIT", "DOT VVEC", "SL1", "STODL RATE LENGTH", "STORE RANGE", "EXIT"]
+
+
 def try_listed():
     """With a listing each operation of main.agc has the line in which it is written, and a part of the run its operations alone."""
     folder = copied(os.path.join(scratch, "listed"))
@@ -178,6 +182,15 @@ def try_listed():
         judge("the file and the line", ("main.agc", source[int(number.rstrip(":")) - 1].split()), (name, text.split()))
         check(f"{where} has {operation}", operation.split(" ")[2] in text.split())
     plain = [line.partition(" # ")[0] for line in lines]
+    of_operation = lambda line: line.split(" | ")[0].split(" ", 2)[2]
+    judge("operations with their operands", OPERATIONS, [of_operation(line) for line in plain])
+    with open(rope + ".names") as file:
+        places = {name: place.split(",")[-1] for place, name in map(str.split, file)}
+    spec = ",".join(places[name] for name in traced.SPEC.split(","))
+    without = subprocess.run([STUDY, "trace", rope, os.devnull, "--limit", "5000", "--interpretive", spec], capture_output=True, text=True).stdout.splitlines()
+    wanted = [operation.split(" ")[0] for operation in OPERATIONS]
+    judge("without names an operation has no operand", wanted[:5] + wanted[7:], [of_operation(line) for line in without[:5] + without[7:]])
+    judge("and a store its cell alone", ["STODL 1402", "STORE 1400"], [of_operation(line) for line in without[5:7]])
     first, last = int(plain[2].split()[0]), int(plain[4].split()[0])
     judge("a part", [*plain[2:4], plain[4].partition(" > ")[0] + " > - | " + plain[4].rpartition(" | ")[2]], traced.printed(rope, 5000, "--from", str(first), "--to", str(last)))
 

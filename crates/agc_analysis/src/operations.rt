@@ -11,7 +11,7 @@ use agc_store::{Addr, Store};
 use agc_symbols::SymbolTable;
 use agc_trace::{Span, TraceFault};
 use agc_word::Narrow;
-use agc_woven::{Operations, operations_at};
+use agc_woven::{OperationText, Operations, operations_at};
 use std::alloc::{AllocError, Global};
 use std::io::Write;
 
@@ -24,7 +24,7 @@ pub(crate) struct OperationPlan {
     pub interpreter: Interpreter,
     /// The range of cycles: operations that begin in it are written.
     pub span: Span,
-    /// The names of cells, for stores.
+    /// The names of places, for operands.
     pub names: Option<SymbolTable>,
 }
 
@@ -55,7 +55,7 @@ struct Begun {
 #[derive(Drop)]
 struct Right {
     place: usize,
-    text: String,
+    operation: OperationText,
 }
 
 /// Follows the interpreter of a machine from place to place.
@@ -136,12 +136,7 @@ impl<'a> Follower<'a> {
                 Ok(())
             }
             Passing::Begin => match self.right.take() {
-                Some(
-                    Right {
-                        place,
-                        text: operation,
-                    },
-                ) => {
+                Some(Right { place, operation }) => {
                     self.end(Some(machine.store()), text)?;
                     self.begin(alloc, place, operation, machine, text)
                 }
@@ -168,7 +163,7 @@ impl<'a> Follower<'a> {
         let Operations { left, right } = operations_at(alloc, store, self.names, place)?;
         self.is_fetched = store.fixed_at(place).is_minus();
         self.right = match right {
-            Some(text) => Some(Right { place, text }),
+            Some(operation) => Some(Right { place, operation }),
             None => None,
         };
         self.begin(alloc, place, left, machine, text)
@@ -179,17 +174,20 @@ impl<'a> Follower<'a> {
         &mut self,
         alloc: Global,
         place: usize,
-        operation: String,
+        operation: OperationText,
         machine: &Machine,
         text: &mut String,
     ) -> Result<(), AllocError> {
         let store = machine.store();
-        let is_exit = operation.as_str() == "EXIT";
+        let OperationText { name, operands } = operation;
+        let is_exit = name.as_str() == "EXIT";
         let before = accumulator_in(&self.interpreter, store);
+        let mut called = named_for(alloc, name, before.is_vector())?;
+        called.push_str(operands.as_str())?;
         self.begun = Some(Begun {
             cycle: machine.cycle(),
             place,
-            text: named_for(alloc, operation, before.is_vector())?,
+            text: called,
             before,
             push_down: word_at(self.interpreter.push_down, store),
         });

@@ -2,6 +2,7 @@
 use crate::cell_notes::{push_name_note, push_worth_line};
 use crate::display::Display;
 use crate::notes::Notes;
+use crate::operand_notes::push_operand_note;
 use crate::values::cell_word_in;
 use agc_quantities::CellWord;
 use agc_sources::PrintedLine;
@@ -10,7 +11,7 @@ use std::alloc::{AllocError, Global};
 use std::io::{self, ErrorKind, Write};
 
 /// Passes lines on, with notes: ` # ` and the source line behind each line with a place of the listing, or the name behind a
-/// cell or a breakpoint; after one or two printed cells `# ` and what they are worth; after cells `# NAME VALUE UNIT` for each
+/// cell or a breakpoint; without a source line, the order with its operand by its name; after one or two printed cells `# ` and what they are worth; after cells `# NAME VALUE UNIT` for each
 /// quantity whose words are there; after the panel `# ` and the display in words.
 #[derive(Drop)]
 pub struct NoteWriter<'a, W> {
@@ -67,7 +68,9 @@ impl<'a, W: Write> NoteWriter<'a, W> {
         }
         self.out.write_all(self.line.as_slice())?;
         self.write_name()?;
-        self.write_source()?;
+        if !self.write_source()? {
+            self.write_operand()?;
+        }
         self.out.write_all(b"\n")?;
         if self.notes.nouns.is_some() {
             or_memory(self.display.see(self.line.as_slice()))?;
@@ -86,21 +89,29 @@ impl<'a, W: Write> NoteWriter<'a, W> {
         self.out.write_all(text.as_bytes())
     }
 
-    /// Writes the source line of a place, if the listing has one.
-    fn write_source(&mut self) -> io::Result<()> {
+    /// Writes the source line of a place, if the listing has one. Returns whether it has.
+    fn write_source(&mut self) -> io::Result<bool> {
         let Some(sources) = &self.notes.sources else {
-            return Ok(());
+            return Ok(false);
         };
         let Some(place) = PrintedLine::Console.place_in(self.line.as_slice()) else {
-            return Ok(());
+            return Ok(false);
         };
         match sources.line_at(place) {
             Some(source) => {
                 self.out.write_all(b" # ")?;
-                self.out.write_all(source)
+                self.out.write_all(source)?;
+                Ok(true)
             }
-            None => Ok(()),
+            None => Ok(false),
         }
+    }
+
+    /// Writes the order of a line with its operand by its name, if that is sure.
+    fn write_operand(&mut self) -> io::Result<()> {
+        let mut text = String::new(self.alloc);
+        or_memory(push_operand_note(&mut text, self.names, self.line.as_slice()))?;
+        self.out.write_all(text.as_bytes())
     }
 
     /// Writes what the printed cells are worth, and the values of the quantities whose words are among them.

@@ -6,6 +6,7 @@ mod history;
 mod inspector;
 mod keyboard;
 mod lamps;
+mod named_order;
 mod picture;
 mod segment;
 

@@ -43,11 +43,20 @@ struct Pair {
     right: Option<Named>,
 }
 
-/// The texts of the operations of a word, such as `DLOAD*`; a store has one, such as `STODL RATE`.
+/// An operation as a text.
+#[derive(Drop)]
+pub struct OperationText {
+    /// The operation, such as `DLOAD*`; a store with its cell, such as `STODL RATE`.
+    pub name: String,
+    /// The operands that have words behind it, each behind a blank; nothing without names of places.
+    pub operands: String,
+}
+
+/// The operations of a word; a store is one.
 #[derive(Drop)]
 pub struct Operations {
-    pub left: String,
-    pub right: Option<String>,
+    pub left: OperationText,
+    pub right: Option<OperationText>,
 }
 
 /// Returns the operations of the word at a place, which is no operand. That of a word that no rule of the language reads says so.
@@ -59,26 +68,23 @@ pub fn operations_at(
 ) -> Result<Operations, AllocError> {
     let mut reader = Reader::new(store, names);
     let bits = reader.bits_at(place);
-    let mut left = String::new(alloc);
-    let mut right = None;
     if bits < 0o40000 {
-        reader.push_store(&mut left, bits)?;
-    } else if let Some(pair) = reader.pair_at(place, bits) {
-        push_name(&mut left, pair.left)?;
-        right = text_of(alloc, pair.right)?;
-    } else {
-        reader.push_unread(&mut left)?;
+        return reader.store_at(alloc, place, bits);
     }
-    Ok(Operations { left, right })
+    let behind = place.saturating_add(1);
+    match reader.pair_at(place, bits) {
+        Some(pair) => reader.texts_of(alloc, pair, behind),
+        None => unread(alloc),
+    }
 }
 
-fn text_of(alloc: Global, named: Option<Named>) -> Result<Option<String>, AllocError> {
-    let Some(named) = named else {
-        return Ok(None);
+/// Returns the text of a word that no rule of the language reads.
+fn unread(alloc: Global) -> Result<Operations, AllocError> {
+    let left = OperationText {
+        name: String::from_str(alloc, UNREAD)?,
+        operands: String::new(alloc),
     };
-    let mut text = String::new(alloc);
-    push_name(&mut text, named)?;
-    Ok(Some(text))
+    Ok(Operations { left, right: None })
 }
 
 /// Returns a line for each word from the first place to the last: place, word, and what it is in the interpretive
@@ -212,6 +218,76 @@ impl<'a> Reader<'a> {
         let right = self.named(code, operand.saturating_add(count_of(&behind)))?;
         let right = Some(right);
         Some(Pair { left, right })
+    }
+
+    /// Returns the text of a store at a place, with what it loads or calls.
+    fn store_at(
+        &mut self,
+        alloc: Global,
+        place: usize,
+        bits: u16,
+    ) -> Result<Operations, AllocError> {
+        let mut name = String::new(alloc);
+        self.push_store(&mut name, bits)?;
+        let mut operands = String::new(alloc);
+        let due = self.due.first;
+        self.push_due(&mut operands, due, place.saturating_add(1))?;
+        let left = OperationText { name, operands };
+        Ok(Operations { left, right: None })
+    }
+
+    /// Returns the texts of a pair, whose operands begin at a place.
+    fn texts_of(
+        &mut self,
+        alloc: Global,
+        pair: Pair,
+        first: usize,
+    ) -> Result<Operations, AllocError> {
+        let (left, behind) = self.text_of(alloc, pair.left, first)?;
+        let Some(right) = pair.right else {
+            return Ok(Operations { left, right: None });
+        };
+        let (right, _) = self.text_of(alloc, right, behind)?;
+        let right = Some(right);
+        Ok(Operations { left, right })
+    }
+
+    /// Returns the text of an operation whose operands begin at a place, and the place behind them.
+    fn text_of(
+        &mut self,
+        alloc: Global,
+        named: Named,
+        first: usize,
+    ) -> Result<(OperationText, usize), AllocError> {
+        let mut name = String::new(alloc);
+        push_name(&mut name, named)?;
+        let mut operands = String::new(alloc);
+        let due = Pending::behind(named.operation, None);
+        let second = self.push_due(&mut operands, due.first, first)?;
+        let behind = self.push_due(&mut operands, due.second, second)?;
+        Ok((OperationText { name, operands }, behind))
+    }
+
+    /// Appends an operand, if there are names, whose word is at a place. Returns the place behind it: the same if none is due,
+    /// or if it is popped.
+    fn push_due(
+        &mut self,
+        text: &mut String,
+        due: Option<Due>,
+        place: usize,
+    ) -> Result<usize, AllocError> {
+        let Some(due) = due else {
+            return Ok(place);
+        };
+        let bits = self.bits_at(place);
+        if matches!(due, Due::Popped) && bits >= 0o40000 {
+            return Ok(place);
+        }
+        if self.names.is_some() {
+            text.push_str(" ")?;
+            self.push_operand(text, due, place, bits)?;
+        }
+        Ok(place.saturating_add(1))
     }
 
     fn push_unread(&mut self, text: &mut String) -> Result<(), AllocError> {

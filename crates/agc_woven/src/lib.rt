@@ -8,6 +8,6 @@ mod source_listing;
 mod sums;
 
 pub use followed_code::followed_lines;
-pub use interpretive_code::{Operations, interpretive_lines, operations_at};
+pub use interpretive_code::{OperationText, Operations, interpretive_lines, operations_at};
 pub use source_listing::{ListingFault, listing_of};
 pub use sums::{SummedRope, SumsFault, used_file, with_sums};

@@ -219,8 +219,8 @@ fn last_boundaries(rt: HostRuntime) {
     equal(
         &rt,
         inspector(&rt, &names, &operator, 12).as_str(),
-        " 111 4000 LOOP         14000 TCF 4000 x 12 | A 000000 L 00000 Q 000000 Z 4001 EB 0 FB 00
- A 000000 L 00000 Q 000000 Z 4001 EB 0 FB 00 BB 00000\n next 4000 LOOP         14000 TCF 4000\n",
+        " 111 4000 LOOP         14000 TCF LOOP x 12 | A 000000 L 00000 Q 000000 Z 4001 EB 0 FB 00
+ A 000000 L 00000 Q 000000 Z 4001 EB 0 FB 00 BB 00000\n next 4000 LOOP         14000 TCF LOOP\n",
     );
 }
 

@@ -1,14 +1,15 @@
 //! Prints the inspector (last boundaries, registers, what comes next) and the Executive's tables.
 use super::history::push_lines;
+use super::named_order::push_coming;
 use crate::history::History;
 use agc_panel::{WatchSpec, watch};
 use agc_session::Session;
 use agc_symbols::SymbolTable;
-use agc_trace::{push_next_line_with, push_registers_line};
+use agc_trace::push_registers_line;
 use std::alloc::{AllocError, Global};
 
 /// Adds the last boundaries of a session, in `most` lines at most, its registers, and what comes next, each a line after
-/// a space. With a symbol table, the name of an order's place follows it. Fails if memory runs out.
+/// a space. With a symbol table, an order has the name of its place, and its operand by its name. Fails if memory runs out.
 pub fn push_inspector(
     alloc: Global,
     text: &mut String,
@@ -23,8 +24,9 @@ pub fn push_inspector(
     let machine = session.machine();
     text.push_str(" ")?;
     push_registers_line(text, machine.store())?;
-    text.push_str(" ")?;
-    push_next_line_with(text, names, machine.upcoming())
+    text.push_str(" next ")?;
+    push_coming(text, names, machine)?;
+    text.push_str("\n")
 }
 
 /// Adds the Executive's tables of a session, as `agc` prints them. Fails if memory runs out or the places of the
