@@ -688,6 +688,172 @@ def try_words(tries):
     tries.check('no words without a file', None, tries.browser.value("document.getElementById('left-words')"))
 
 
+PLOT_LEFT, PLOT_RIGHT = 58, 8  # points of the plot beside its curves
+PLOT_BOTTOM = 18  # and below them
+CURVES = {'ramp': [93, 255, 155], 'fall': [255, 207, 112], 'jump': [159, 208, 255]}  # the first of six, and their colours
+PINK = [255, 79, 163]
+BOXES = "[...document.querySelectorAll('#plot-choice input')].map((box) => [box.parentNode.textContent.trim(), box.checked, box.disabled])"
+LABELS = "[...document.querySelectorAll('#plot-labels p')].map((label) => label.textContent)"
+# The heights in a column of the plot at which a colour is, within some steps of red, green and blue.
+HEIGHTS = """((x, colour) => {
+    const canvas = document.getElementById('plot-canvas');
+    const points = canvas.getContext('2d').getImageData(Math.round(x), 0, 1, canvas.height).data;
+    const off = (y) => Math.max(...colour.map((part, i) => Math.abs(part - points[4 * y + i])));
+    return [...Array(canvas.height).keys()].filter((y) => off(y) < 90);
+})"""
+
+
+def plot_place(tries, cycle, begin=0, end=300000):
+    """The place of a cycle in the plot, from the left of the window, and the plot's top."""
+    tries.browser.value("document.getElementById('plot-area').scrollIntoView({ block: 'center' }); undefined")
+    box = tries.look("box('plot-area')")
+    return box['left'] + PLOT_LEFT + (box['right'] - box['left'] - PLOT_LEFT - PLOT_RIGHT) * (cycle - begin) / (end - begin), box['top']
+
+
+def heights(tries, name, *cycles):
+    """The middle of the heights at which a curve has these cycles, from the top of its strip."""
+    strip = (tries.browser.value("document.getElementById('plot-canvas').height") - PLOT_BOTTOM) / 6
+    top = strip * list(CURVES).index(name)
+    middles = []
+    for cycle in cycles:
+        x = plot_place(tries, cycle)[0] - tries.look("box('plot-area')")['left']
+        found = [y - top for y in tries.browser.value(f'{HEIGHTS}({x}, {CURVES[name]})') if top <= y < top + strip]
+        middles.append(sum(found) / len(found) if found else -1000)
+    return middles
+
+
+def alarm_places(tries):
+    """Where the plot has pink lines, from the left of the window."""
+    left = tries.look("box('plot-area')")['left']
+    width = tries.browser.value("document.getElementById('plot-canvas').width")
+    found = [x for x, count in enumerate(tries.browser.value(f'[...Array({width}).keys()].map((x) => {HEIGHTS}(x, {PINK}).length)')) if count > 200]
+    return [left + x + 0.5 for x in found if x - 1 not in found]
+
+
+def try_plot(tries):
+    """The plot of a table of samples: what is drawn at first, its curves, the values at the film's cycle, and the PROG lamp."""
+    tries.check('the page before it', tries.file('one.html'), tries.file('plot.html')[:len(tries.file('one.html'))])
+    tries.open('plot.html')
+    wanted = [['ramp', True, False], ['fall', True, False], ['code', False, True], ['jump', True, False], ['four', True, False], ['five', True, False],
+              ['six', False, True], ['seven', True, False]]
+    tries.check('the first six columns of numbers are on', wanted, tries.browser.value(BOXES))
+    for cycle in (0, 999, 1000, 149999, 150000, 299999):
+        tries.go(cycle)
+        row = cycle // 1000
+        wanted = [f'ramp {row}', f'fall {300 - row}', f'jump {0 if row < 150 else 8}', 'four 4', 'five 5', 'seven 7']
+        tries.check(f'the values at {cycle}', wanted, tries.browser.value(LABELS))
+        tries.near(f'the cursor at {cycle}', plot_place(tries, cycle)[0], tries.browser.value("document.getElementById('plot-cursor').getBoundingClientRect().left") + 0.75, 1)
+    tries.go(75000)  # whose cursor is in the way of no other cycle
+    ramp = heights(tries, 'ramp', 1500, 101500, 201500, 298500)
+    whole = ramp[0] - ramp[3]
+    tries.check('the ramp goes up', True, whole > 40)
+    for part, height in zip((100, 200), ramp[1:3]):
+        tries.near(f'the height of the ramp {part} on', ramp[0] - whole * part / 297, height, 2)
+    fall = heights(tries, 'fall', 1500, 101500, 298500)
+    tries.near('the fall mirrors it', fall[0] + whole * 100 / 297, fall[1], 2)
+    tries.near('to its end', fall[0] + whole, fall[2], 2)
+    jump = heights(tries, 'jump', 10000, 140000, 160000, 290000)
+    tries.near('the jump is level before', jump[0], jump[1], 1)
+    tries.near('and behind', jump[2], jump[3], 1)
+    tries.check('and goes up', True, jump[1] - jump[2] > 30)
+    try_alarm(tries)
+    tries.open('one.html')
+    tries.check('no plot without samples', None, tries.browser.value("document.getElementById('plot')"))
+
+
+def lit_cycles(tries):
+    """The cycles of agc's log at which the PROG lamp goes on: bit 9 of relay row 12."""
+    log = re.findall('^([0-9]+) 010 ([0-7]{5})$', tries.file('log'), re.MULTILINE)
+    lit = [(int(cycle), int(word, 8) >> 8 & 1) for cycle, word in log if int(word, 8) >> 11 == 12]
+    return [cycle for i, (cycle, is_lit) in enumerate(lit) if is_lit and not (i and lit[i - 1][1])]
+
+
+def try_alarm(tries):
+    """A pink line where the PROG lamp goes on, and words; a film that begins with the lamp on has none."""
+    cycle, = lit_cycles(tries)
+    found = alarm_places(tries)
+    tries.check('one line', 1, len(found))
+    tries.near('where the lamp goes on', plot_place(tries, cycle)[0], (found or [0])[0], 1.5)
+    tries.check('in words', f'Alarms, pink: the PROG lamp goes on at {cycle / A_SECOND:.3f} s.', tries.look("text('plot-alarms')"))
+    tries.open('part_plot.html')
+    tries.go(140000)
+    tries.check('the lamp is lit as the part begins', True, 'PROG' in tries.look("panel('left')").splitlines()[-1])
+    tries.check('that is no alarm', ([], None), (alarm_places(tries), tries.look("text('plot-alarms')")))
+    tries.near('the cursor as the part begins', plot_place(tries, 140000, *PART)[0],
+               tries.browser.value("document.getElementById('plot-cursor').getBoundingClientRect().left") + 0.75, 1)
+    tries.check('the values then', ['ramp 140', 'fall 160'], tries.browser.value(LABELS)[:2])
+    try_lamps_apart(tries)
+
+
+def try_lamps_apart(tries):
+    """Each time that the PROG lamp goes on is an alarm, and no other lamp's."""
+    frames = [(50000, 'TRACKER'), (100000, 'PROG, TRACKER'), (150000, 'TRACKER'), (200000, 'GIMBAL LOCK, TRACKER'), (250000, 'PROG')]
+    shown = run([(cycle, panel(lamps=lamps)) for cycle, lamps in frames], stop=300000)
+    with open(os.path.join(tries.folder, 'lamps_plot.html'), 'w', encoding='utf-8') as file:
+        file.write(BLOCKS.sub(lambda _: f'<script type="text/plain" id="left">{shown}</script>\n', tries.file('plot.html'), count=1))
+    tries.open('lamps_plot.html')
+    wanted, found = [plot_place(tries, cycle)[0] for cycle in (100000, 250000)], alarm_places(tries)
+    tries.check('two alarms', True, len(found) == 2 and all(abs(one - other) < 1.5 for one, other in zip(wanted, found)))
+    tries.check('both in words', f'Alarms, pink: the PROG lamp goes on at {100000 / A_SECOND:.3f} s, {250000 / A_SECOND:.3f} s.', tries.look("text('plot-alarms')"))
+
+
+def try_plot_controls(tries):
+    """Dragging the cursor and clicking take the film there, the keys of a slider too; boxes choose columns."""
+    tries.open('plot.html')
+    point = 300000 / (tries.look("box('plot-area')")['right'] - tries.look("box('plot-area')")['left'] - PLOT_LEFT - PLOT_RIGHT)
+    height = plot_place(tries, 0)[1] + 40
+    place = lambda cycle: plot_place(tries, cycle)[0]
+    tries.browser.mouse('mousePressed', place(30000), height)
+    tries.near('the cycle that is pressed', 30000, tries.cycle(), point)
+    for cycle in (150000, 240000):
+        tries.browser.mouse('mouseMoved', place(cycle), height)
+        tries.near(f'the cycle that is dragged to {cycle}', cycle, tries.cycle(), point)
+        tries.near('the cursor follows', place(cycle), tries.browser.value("document.getElementById('plot-cursor').getBoundingClientRect().left") + 0.75, 1.5)
+    tries.check('the panel follows', panel_at(tries, tries.cycle()), tries.look("panel('left')"))
+    tries.browser.mouse('mouseReleased', place(240000), height)
+    there = tries.cycle()
+    tries.browser.mouse('mouseMoved', place(60000), height)
+    tries.check('after that it stays', there, tries.cycle())
+    tries.browser.click(place(60000), height)
+    tries.near('a click', 60000, tries.cycle(), point)
+    there = tries.cycle()
+    tries.browser.value("document.getElementById('plot-area').focus()")
+    tries.press('ArrowRight')
+    tries.check('a hundredth on', there + 3000, tries.cycle())
+    tries.check('said to a screen reader', f'{(there + 3000) / A_SECOND:.3f} s, ramp {(there + 3000) // 1000}',
+                ', '.join(tries.browser.value("document.getElementById('plot-area').getAttribute('aria-valuetext')").split(', ')[:2]))
+    tries.browser.value("document.querySelectorAll('#plot-choice input')[4].focus()")
+    tries.press('Space')
+    tries.check('Space takes a column off, and plays nothing', ([True, False, False], '▶ Play'),
+                ([tries.browser.value(BOXES)[i][1] for i in (3, 4, 2)], tries.look("text('play')")))
+    tries.browser.value("document.querySelectorAll('#plot-choice input')[2].click()")
+    tries.check('a code is shown as it is', 'code 01202', tries.browser.value(LABELS)[2])
+    tries.check('six are on again', [['four', False, True], ['six', False, True]], [each for each in tries.browser.value(BOXES) if not each[1]])
+
+
+def panel_at(tries, cycle):
+    """The panel that the film without the plot shows at a cycle."""
+    return [shown for at, shown in frames_in(tries.file('one.html'), 'left') if at <= cycle][-1]
+
+
+def try_bad_samples(tries):
+    """Two runs have the samples of the left one. A file that is no table breaks nothing: the page says what is wrong with which line."""
+    tries.open('two_plot.html')
+    tries.check('of which run they are', 'Samples of the left run, up to 6 at a time', tries.browser.value("document.querySelector('#plot h2').textContent"))
+    tries.go(299999)
+    tries.check('its values', 'ramp 299', tries.browser.value(LABELS)[0])
+    tries.check('the words are there, too', 'V16 N62', (tries.look("text('left-words')") or '')[:7])
+    tries.open('bad_plot.html')
+    tries.check('the first faulty row', 'The file of samples, line 3: fields: 3; the heading has 4. 2 more.', tries.look("text('trouble')").strip())
+    tries.go(250)
+    tries.check('the others are there', ['a 3', 'b 4'], tries.browser.value(LABELS))
+    tries.open('no_plot.html')
+    tries.check('no heading', 'The file of samples, line 1: the heading of a table is cycle,seconds,NAME,..', tries.look("text('trouble')").strip()[:-1])
+    tries.check('no plot', None, tries.browser.value("document.getElementById('plot')"))
+    tries.press('End')
+    tries.check('but the film', 300000, tries.cycle())
+
+
 def try_slider(tries):
     """The slider goes to any cycle while it is dragged, and to the ends."""
     tries.open(tries.page('slider.html', left=run([(1000000, panel(PROG='11'))])))
@@ -767,7 +933,7 @@ def try_playing(tries):
 TRIES = (
     try_constants, try_film, try_changes, try_log, try_blocks, try_writes, try_long_film, try_remark, try_part, try_tables,
     try_two_films, try_long_names, try_links, try_segments, try_lamps, try_keyboard, try_keys, try_short_run, try_two_runs,
-    try_unread, try_words, try_slider, try_speeds, try_playing,
+    try_unread, try_words, try_plot, try_plot_controls, try_bad_samples, try_slider, try_speeds, try_playing,
 )
 
 

@@ -2,8 +2,8 @@
 
     tries.py FOLDER BROWSER
 
-The folder has the script of the flight, `with`. What the page's data and bars are to be is read from `jobs` and `trace`; how
-many jobs there are at the alarms is in examples/descent/alarm/README.md.
+The folder has the script of the flight, `with`. What the page's data and bars are to be is read from `jobs` and `trace`, and when
+the PROG lamp goes on from `agc --log`; how many jobs there are at the alarms is in examples/descent/alarm/README.md.
 """
 import os
 import random
@@ -14,7 +14,7 @@ import tempfile
 from collections import Counter
 
 from browser import Browser
-from judge import STUDY, TOP, attempt, check, depends_on_time, finish, judge
+from judge import AGC, STUDY, TOP, attempt, check, depends_on_time, finish, judge
 from reading import SLICE, Reading
 
 FOLDER, PROGRAM = sys.argv[1:]
@@ -91,6 +91,13 @@ def pointed(cycle, row):
     return browser.value("find('about').textContent")
 
 
+def lit_cycles():
+    """The cycles of the log at which the PROG lamp goes on: bit 9 of relay row 12, on channel 10."""
+    log = subprocess.run([AGC, *FILES, "--limit", "6400000", "--log"], capture_output=True, text=True, check=True).stdout
+    lit = [(int(cycle), int(word, 8) >> 8 & 1) for cycle, word in re.findall("^([0-9]+) 010 ([0-7]{5})$", log, re.MULTILINE) if int(word, 8) >> 11 == 12]
+    return [cycle for i, (cycle, is_lit) in enumerate(lit) if is_lit and not (i and lit[i - 1][1])]
+
+
 def try_file():
     if os.path.exists(PAGE):
         os.unlink(PAGE)
@@ -109,6 +116,9 @@ def try_data():
     judge("the interrupts", sorted(wanted), sorted(line for line in lines if re.search(" (RUPT|RESUME)", line)))
     marks = [f"{line.split()[0]} MARK {number}" for number, mark in enumerate(MARKS) for line in reading.at(mark)]
     judge("the marks", sorted(marks), sorted(line for line in lines if " MARK " in line))
+    lit = lit_cycles()
+    judge("one alarm lights the lamp, soon after the 1202", (1, True), (len(lit), 0 < lit[0] - ALARM < SECOND / 4))
+    judge("the alarms", [f"{cycle} ALARM" for cycle in lit], [line for line in lines if " ALARM" in line])
     found = {int(line.split()[0]) // SLICE: int(line.split()[2]) for line in lines if " STOLEN " in line}
     judge("the stolen cycles", reading.stolen, found)
     judge("the end", f"to {LAST}", lines[-1])
@@ -181,6 +191,41 @@ def try_alarm():
         return r > 200 && g < 150; }})()"""
     opened(PAGE, f"from={ALARM - 20000}&to={ALARM + 20000}")
     check("no core set left is red", browser.value(red))
+
+
+def try_lamp():
+    """The alarm has a line in a colour of its own, its words when one points at it, and a button; other pages have none of these."""
+    lit, = lit_cycles()
+    opened(PAGE, f"from={lit - 50000}&to={lit + 50000}")
+    found = pointed(lit, "alarms")
+    judge("pointing at the alarm", f"PROG: an alarm: the PROG lamp goes on\nat cycle {lit}, {lit / SECOND:.6f} s", found)
+    pink = f"""[-20, 0, 20].map((off) => {{
+        const y = lanes.find(({{ row }}) => row === sets[7]).y + ROW / 2; // which is empty there
+        const [r, g, b] = pen.getImageData(Math.floor(xOf({lit})) + off, y, 1, 1).data;
+        return r > 100 && g < 120 && b > 60 && r > 1.5 * g && b > g; }})"""
+    judge("the line", [False, True, False], browser.value(pink))
+    text = f"{lit / SECOND:.3f} s, cycle {lit}"
+    judge("the words", f"Alarms, at which the PROG lamp goes on: {text}", browser.value("find('alarms').textContent"))
+    browser.value("find('all').click()")
+    settle()
+    browser.value("find('alarms').querySelector('button').click()")
+    settle()
+    begun, end = view()
+    check(f"the button shows the second around it: {begun} to {end}", abs((begun + end) / 2 - lit) < 2 and abs(end - begun - SECOND) < 2)
+    try_no_lamp()
+
+
+def try_no_lamp():
+    """A part that begins with the lamp on has no alarm, and neither has a page of an older program."""
+    later = os.path.join(tempfile.mkdtemp(dir=FOLDER), "later.html")
+    words = [*FILES, "--limit", "6400000", "--from", "5400000", "--to", "5450000", "--watch", WATCH, "--timeline", later]
+    subprocess.run([STUDY, "jobs", *words], check=True)
+    judge("the lamp went on before", [], [line for line in data_of(later) if " ALARM" in line])
+    older = with_data("older.html", [line for line in data_of(PAGE) if " ALARM" not in line])
+    for page in (later, older):
+        opened(page)
+        judge("no alarm", ([], "", False), (browser.value("alarms.ticks"), browser.value("find('alarms').textContent"), browser.value("find('alarms').checkVisibility()")))
+    check("the bars are there", len(browser.value(BARS)) > 100)
 
 
 def cycle_of(line):
@@ -292,7 +337,7 @@ reading = Reading(FILES, PART, WATCH, NAMES)
 attempt(try_data)
 with tempfile.TemporaryDirectory() as home:
     browser = Browser(PROGRAM, home, 1400, 900)
-    for group in (try_bars, try_tasks, try_alarm, try_pointing, try_moving, try_hosts, try_many_bars, try_cut_page):
+    for group in (try_bars, try_tasks, try_alarm, try_lamp, try_pointing, try_moving, try_hosts, try_many_bars, try_cut_page):
         attempt(group)
     browser.close()
 finish()

@@ -1,8 +1,8 @@
 //! Records who had the processor in a part of a run, as lines of text.
 use crate::title::push_lines_of_names;
 use agc_listing::{Location, LocationRange, location_at};
-use agc_machine::{InHand, Machine, Upcoming};
-use agc_panel::{CheckedSpec, Tables};
+use agc_machine::{ChannelWrite, InHand, Machine, Upcoming};
+use agc_panel::{CheckedSpec, Lamp, Panel, Tables};
 use agc_symbols::SymbolTable;
 use agc_timeline::LastTables;
 use agc_trace::Entry;
@@ -24,6 +24,8 @@ pub struct Mark {
 pub(crate) struct JobsRecord {
     pub(crate) text: String,
     shown: LastTables,
+    /// The panel after the channel writes so far.
+    panel: Panel,
     /// Whether the service of an interrupt is running.
     serving: bool,
     /// The first cycle of the slice in progress.
@@ -33,15 +35,17 @@ pub(crate) struct JobsRecord {
 }
 
 impl JobsRecord {
-    /// Begins to add lines to a text, with the present state of a machine.
+    /// Begins to add lines to a text, with the present state of a machine and its panel.
     pub(crate) fn begin(
         alloc: Global,
         text: String,
         machine: &Machine,
+        panel: Panel,
     ) -> Result<JobsRecord, AllocError> {
         let mut record = JobsRecord {
             text,
             shown: LastTables::nothing(alloc),
+            panel,
             serving: machine.serving(),
             slice: 0,
             stolen: 0,
@@ -77,7 +81,10 @@ impl JobsRecord {
     ) -> Result<(), AllocError> {
         match entry.happening {
             Upcoming::Interrupt(rupt) => self.begin_service(entry.cycle, rupt.name()),
-            Upcoming::Order(order) => self.take_order(entry.cycle, order, machine, marks),
+            Upcoming::Order(order) => {
+                self.take_order(entry.cycle, order, machine, marks)?;
+                self.take_write(entry.write)
+            }
             Upcoming::Event(_) | Upcoming::Timer(_) => {
                 self.steal(entry.cycle, machine.cycle().saturating_sub(entry.cycle))
             }
@@ -109,6 +116,20 @@ impl JobsRecord {
         Ok(())
     }
 
+    /// Adds an alarm if a channel write turns the PROG lamp on.
+    fn take_write(&mut self, write: Option<ChannelWrite>) -> Result<(), AllocError> {
+        let Some(write) = write else {
+            return Ok(());
+        };
+        let was_lit = is_prog_lit(&self.panel);
+        self.panel.take(&write);
+        if was_lit || !is_prog_lit(&self.panel) {
+            return Ok(());
+        }
+        let cycle = write.cycle;
+        writeln!(self.text, "{cycle} ALARM")
+    }
+
     /// Counts cycles that a counter took.
     fn steal(&mut self, cycle: u64, cycles: u64) -> Result<(), AllocError> {
         let slice = cycle - cycle % SLICE;
@@ -129,6 +150,11 @@ impl JobsRecord {
         }
         writeln!(self.text, "{slice} STOLEN {stolen}")
     }
+}
+
+/// Returns whether the PROG lamp of a panel is on.
+fn is_prog_lit(panel: &Panel) -> bool {
+    panel.face().lamps.is_lit(Lamp::Prog)
 }
 
 /// Adds the number of each mark that has a place.

@@ -5,10 +5,9 @@ use crate::page::{JOBS_HEAD, JOBS_TAIL};
 use crate::title::{push_lines_of_names, push_title};
 use agc_io::{Progress, report_at};
 use agc_load::RunFiles;
-use agc_machine::Machine;
-use agc_panel::CheckedSpec;
+use agc_machine::{Machine, Stepped};
+use agc_panel::{CheckedSpec, Panel};
 use agc_symbols::SymbolTable;
-use agc_timeline::go_to_first;
 use agc_trace::{Span, next_entry};
 use std::alloc::{AllocError, Global};
 
@@ -21,8 +20,9 @@ pub struct JobsPlan<'a> {
     pub marks: &'a [Mark],
 }
 
-/// Runs a machine past a part of its run, or to its stop before that, and returns the page with the tables at the places
-/// in `spec`, the interrupts, the marked orders and the cycles that counters took. Fails if memory runs out.
+/// Runs a machine past a part of its run, or to its stop before that, and returns the page with the tables at the
+/// places in `spec`, the interrupts, the marked orders, the alarms, and the cycles that counters took. Fails if memory
+/// runs out.
 pub fn jobs_page<P: Progress>(
     alloc: Global,
     plan: JobsPlan<'_>,
@@ -32,8 +32,8 @@ pub fn jobs_page<P: Progress>(
     progress: &mut P,
 ) -> Result<String, AllocError> {
     let text = begin_page(alloc, plan)?;
-    go_to_first(machine, plan.span, progress);
-    let mut record = JobsRecord::begin(alloc, text, machine)?;
+    let panel = go_to_span(machine, plan.span, progress);
+    let mut record = JobsRecord::begin(alloc, text, machine, panel)?;
     let mut mark = 0;
     for _boundary in 0..u64::MAX {
         if plan.span.to < machine.cycle() {
@@ -48,6 +48,24 @@ pub fn jobs_page<P: Progress>(
         mark = report_at(mark, machine.cycle(), progress);
     }
     end_page(record, plan.span, machine)
+}
+
+/// Runs a machine to the first cycle of a span, or to its stop if that comes first, and returns the panel there.
+fn go_to_span<P: Progress>(machine: &mut Machine, span: Span, progress: &mut P) -> Panel {
+    let mut panel = Panel::new();
+    let mut mark = 0;
+    for _stage in 0..u64::MAX {
+        if span.from <= machine.cycle() {
+            break;
+        }
+        mark = report_at(mark, machine.cycle(), progress);
+        match machine.next_write_before(span.from.min(mark)) {
+            Stepped::Quiet => {}
+            Stepped::Wrote(write) => panel.take(&write),
+            Stepped::Stopped(_) => break,
+        }
+    }
+    panel
 }
 
 /// Returns the page up to the lines of the run.

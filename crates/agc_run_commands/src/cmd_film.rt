@@ -8,10 +8,10 @@ ghost use Rattle.agc_load.specs.declared.fault.LoadFault.{LoadFault};
 ghost use Rattle.agc_run_commands.specs.declared.fault.AnalysisFault.TheVariants as analysis;
 
 use crate::fault::{AnalysisFault, FAULTY};
-use crate::film_words::words_block;
 use crate::films::{FilmPage, film_file_pairs, film_files};
 use crate::inputs::read_symbols;
 use crate::streams::Streams;
+use agc_film_blocks::{FilmBlock, film_block};
 use agc_io::{OK, ProgressLine, ReadError, read_limited, status_of, write_in_full};
 use agc_load::{LoadFault, RunFiles};
 use agc_study_args::{FilmArgs, RunInputs, open_file, open_run, resolve_until};
@@ -21,9 +21,6 @@ use std::rt::Files;
 
 /// The number of frames above which a film gets a remark.
 const MANY_FRAMES: usize = 1_000_000;
-
-/// The most bytes of a file of verbs and nouns.
-const NOUNS_BYTES: usize = 65_536;
 
 /// Films the run of a rope file and a script file, or the runs of two of each. A remark warns if the page is so long
 /// that a browser may be slow with it. The stop address may be a symbol.
@@ -44,28 +41,33 @@ where
     if resolve_until(rt.alloc(), &names, &mut args.options.until).is_err() {
         return AnalysisFault::Refused(LoadFault::Memory).report_to(&mut io.err);
     }
-    let words = match words_of(rt, &args.nouns, io) {
+    let words = match block_of(rt, &args.nouns, FilmBlock::Nouns, io) {
         Ok(words) => words,
+        Err(status) => return status,
+    };
+    let plot = match block_of(rt, &args.samples, FilmBlock::Samples, io) {
+        Ok(plot) => plot,
         Err(status) => return status,
     };
     let mut left = open_run(rt, &args.files);
     let Some(other) = &args.other else {
         let status = write_film(rt.alloc(), args, &mut left, io);
         left.remark_fault(rt.alloc(), &mut io.remarks);
-        return end_film(status, &words, &mut io.out);
+        return end_film(status, &words, &plot, &mut io.out);
     };
     let mut right = open_run(rt, other);
     let status = write_film_pair(rt.alloc(), args, other, &mut left, &mut right, io);
     left.remark_fault(rt.alloc(), &mut io.remarks);
     right.remark_fault(rt.alloc(), &mut io.remarks);
-    end_film(status, &words, &mut io.out)
+    end_film(status, &words, &plot, &mut io.out)
 }
 
-/// Reads the file of verbs and nouns, and returns what shows the display in words; it is empty without a file. If it
-/// cannot be read, reports that and returns the exit status.
-fn words_of<R, W: Write, E: Write, N: Write, P>(
+/// Reads the file of a block, and returns the block with what shows it; it is empty without a file. If the file cannot
+/// be read, reports that and returns the exit status.
+fn block_of<R, W: Write, E: Write, N: Write, P>(
     rt: &R,
     path: &Option<String>,
+    block: FilmBlock,
     io: &mut Streams<W, E, N, P>,
 ) -> Result<String, u8>
 where
@@ -77,46 +79,64 @@ where
     let Some(path) = path else {
         return Ok(String::new(rt.alloc()));
     };
-    let mut file = open_file(rt, path, NOUNS_BYTES);
-    match read_limited(rt.alloc(), &mut file, NOUNS_BYTES) {
-        Ok(nouns) => words_in(rt.alloc(), nouns.as_slice(), io),
+    let most = block.most_bytes();
+    let mut file = open_file(rt, path, most);
+    match read_limited(rt.alloc(), &mut file, most) {
+        Ok(bytes) => block_in(rt.alloc(), block, bytes.as_slice(), io),
         Err(ReadError::Memory) => {
             Err(AnalysisFault::Refused(LoadFault::Memory).report_to(&mut io.err))
         }
         Err(ReadError::CannotRead(_)) => {
-            let status = status_of(FAULTY, writeln!(io.err, "agc-study: cannot read nouns"));
+            let status = report_unread(block.name(), &mut io.err);
             file.remark_fault(rt.alloc(), &mut io.remarks);
             Err(status)
         }
     }
 }
 
-/// Returns what shows the display in words by the text of a file. If memory runs out, reports that and returns the exit
-/// status.
-fn words_in<W: Write, E: Write, N: Write, P>(
+/// Reports that the file of a block cannot be read, and returns the exit status.
+fn report_unread<E: Write>(name: &str, err: &mut E) -> u8
+    ensures { (result ≡ 2) ⊎ (result ≡ 3) }
+{
+    status_of(FAULTY, writeln!(err, "agc-study: cannot read {name}"))
+}
+
+/// Returns the block with the bytes of its file, and what shows it. If memory runs out, reports that and returns the
+/// exit status.
+fn block_in<W: Write, E: Write, N: Write, P>(
     alloc: Global,
-    nouns: &[u8],
+    block: FilmBlock,
+    bytes: &[u8],
     io: &mut Streams<W, E, N, P>,
 ) -> Result<String, u8>
     ensures unchanged { OnOk result (io.new ≡ io.old) }
     ensures ended { IfErr result (λ status. EndsWith W.contents E.contents status io.old io.new) }
     ensures faulty { IfErr result (λ status. status ≢ 1) }
 {
-    match words_block(alloc, nouns) {
-        Ok(words) => Ok(words),
+    match film_block(alloc, block, bytes) {
+        Ok(text) => Ok(text),
         Err(AllocError) => Err(AnalysisFault::Refused(LoadFault::Memory).report_to(&mut io.err)),
     }
 }
 
-/// Writes what shows the display in words after a page that was written with this status. Returns the exit status.
-fn end_film<W: Write>(status: u8, words: &String, out: &mut W) -> u8
+/// Writes the display in words and the plot after a page that was written with this status. Returns the exit status.
+fn end_film<W: Write>(status: u8, words: &String, plot: &String, out: &mut W) -> u8
     ensures other { status ≢ 0 → (result ≡ status) × (out.new ≡ out.old) }
     ensures written { status ≡ 0 → (result ≡ 0) ⊎ (result ≡ 3) }
 {
-    if status != OK || words.is_empty() {
+    let ended = add_block(status, words, out);
+    add_block(ended, plot, out)
+}
+
+/// Writes a block after what was written with this status, unless the block is empty. Returns the exit status.
+fn add_block<W: Write>(status: u8, block: &String, out: &mut W) -> u8
+    ensures other { status ≢ 0 → (result ≡ status) × (out.new ≡ out.old) }
+    ensures written { status ≡ 0 → (result ≡ 0) ⊎ (result ≡ 3) }
+{
+    if status != OK || block.is_empty() {
         return status;
     }
-    status_of(OK, write_in_full(out, words.as_bytes()))
+    status_of(OK, write_in_full(out, block.as_bytes()))
 }
 
 /// Films the run of a rope and a script, and writes the page.

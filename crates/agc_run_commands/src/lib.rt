@@ -12,8 +12,6 @@ mod cmd_uplink;
 mod compares;
 mod counts;
 mod fault;
-mod film_script;
-mod film_words;
 mod films;
 mod inputs;
 mod new_files;

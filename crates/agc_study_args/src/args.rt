@@ -275,6 +275,8 @@ pub struct FilmArgs {
     pub names: Option<String>,
     /// The file of verbs and nouns, for the display in words (`--nouns`).
     pub nouns: Option<String>,
+    /// The table of samples of the left run, for the plot (`--samples`).
+    pub samples: Option<String>,
 }
 
 /// Arguments of `convert`: a rope file, its reading, and that of the result.

@@ -408,6 +408,12 @@ static FILM: Subcommand = Subcommand {
             help: "Show the display in words, by this file of verbs and nouns: verb 16 monitor, noun 36 R1 hours = 1",
             ..VALUE
         },
+        Parameter {
+            id: "samples",
+            shown: "FILE",
+            help: "Plot the table in this file, as sample prints it for the run (of two, the first), over time",
+            ..VALUE
+        },
     ],
 };
 

@@ -292,6 +292,7 @@ fn film_args(alloc: Global, given: &ArgMatches<'_>) -> Result<Args, ArgsFault> {
         watch: text_of(alloc, given, "watch")?,
         names: text_of(alloc, given, "names")?,
         nouns: text_of(alloc, given, "nouns")?,
+        samples: text_of(alloc, given, "samples")?,
     }))
 }
 

@@ -5,7 +5,7 @@ pub const JOBS_HEAD: &str = "<!doctype html>
 <html lang='en'>
 <head>
 <meta charset='utf-8'>
-<meta http-equiv='Content-Security-Policy' content=\"default-src 'none'; script-src 'sha256-DeyqHfYB2sxFdTQW3jy/SYUea9t9c+cGWfeUHcrozO0='; style-src 'sha256-PC46dA/q5cEd30yvcUzecjCxXxDKCNbMeMu9S+azKQg='\">
+<meta http-equiv='Content-Security-Policy' content=\"default-src 'none'; script-src 'sha256-izpiWmC4GZguYI/iVH1j6ngztEaKr2x4CyVm5dh7WsE='; style-src 'sha256-EmSzkmh2VJAVGyKPLfDpEzk2yhaY5b4U1LYSCVxuyrA='\">
 <meta name='viewport' content='width=device-width, initial-scale=1'>
 <title>Executive timeline</title>
 <style>
@@ -21,11 +21,15 @@ button { min-width: 36px; padding: 5px 11px; border: 1px solid #6a6d68; border-r
 #trouble { margin: 0; }
 #trouble:not(:empty) { margin: 0 0 8px; padding: 4px 10px; border-left: 4px solid #ffb938; background: #302a1c; }
 #about { min-height: 4.2em; margin: 10px 0 0; padding: 8px 12px; border-radius: 6px; background: #212425; font: 12px/1.4 ui-monospace, monospace; white-space: pre-wrap; }
-table { border-collapse: collapse; font-variant-numeric: tabular-nums; }
+#alarms { display: flex; flex-wrap: wrap; gap: 8px; align-items: center; margin: 10px 0 0; }
+#alarms:empty { display: none; }
+table { display: block; overflow-x: auto; border-collapse: collapse; font-variant-numeric: tabular-nums; }
 th, td { padding: 2px 14px 2px 0; text-align: right; }
 th:first-child, td:first-child { text-align: left; }
 th { color: #b9bab2; font-weight: 600; }
 #help { margin: 10px 0 0; color: #b9bab2; font-size: 12px; }
+body.framed { padding: 8px 10px; }
+.framed h1 { display: none; }
 kbd { padding: 0 4px; border: 1px solid #6a6d68; border-radius: 3px; font: inherit; }
 </style>
 </head>
@@ -41,10 +45,11 @@ kbd { padding: 0 4px; border: 1px solid #6a6d68; border-radius: 3px; font: inher
 <button id='all' title='The whole run (Home)'>All</button>
 <output id='clock'></output>
 </div>
-<canvas id='chart' tabindex='0' role='img' aria-describedby='help' aria-label='Who had the processor when: core sets, idle time, interrupts, tasks, marks and stolen cycles'></canvas>
+<canvas id='chart' tabindex='0' role='img' aria-describedby='help' aria-label='Who had the processor when: core sets, idle time, interrupts, tasks, alarms, marks and stolen cycles'></canvas>
 <pre id='about' aria-live='polite'>Point at a bar.</pre>
+<p id='alarms'></p>
 <h2>Jobs</h2>
 <table><thead><tr><th>Job<th>Started<th>Most at a time<th>Cycles in set 0<th>Share</tr></thead><tbody id='jobs-table'></tbody></table>
 </main>
-<p id='help'>The wheel, <kbd>+</kbd> and <kbd>-</kbd> zoom, dragging, <kbd>\u{2190}</kbd> and <kbd>\u{2192}</kbd> move, <kbd>Home</kbd> shows the whole run. The job in set 0 has the processor, unless an interrupt is served. Above, the number of core sets in use is red while none is left. Bars narrower than a pixel share one: the fainter, the less of it they take.</p>
+<p id='help'>The wheel, <kbd>+</kbd> and <kbd>-</kbd> zoom, dragging, <kbd>\u{2190}</kbd> and <kbd>\u{2192}</kbd> move, <kbd>Home</kbd> shows the whole run. The job in set 0 has the processor, unless an interrupt is served. Above, the number of core sets in use is red while none is left. A pink line is an alarm: there the PROG lamp goes on. Bars narrower than a pixel share one: the fainter, the less of it they take.</p>
 ";

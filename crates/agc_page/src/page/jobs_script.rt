@@ -171,7 +171,7 @@ class Waitlist {
 // Reads the lines of the run.
 class Reader {
   constructor() {
-    this.run = { rope: '', script: '', limit: '', from: 0, end: null, reason: '', slice: 1, marks: [], hits: [], services: [], stolen: new Map() };
+    this.run = { rope: '', script: '', limit: '', from: 0, end: null, reason: '', slice: 1, marks: [], hits: [], alarms: [], services: [], stolen: new Map() };
     this.executive = new Executive();
     this.waitlist = new Waitlist();
   }
@@ -200,6 +200,8 @@ class Reader {
       this.waitlist.serve('');
     } else if (kind === 'MARK') {
       this.run.hits.push({ cycle, name: this.run.marks[Number(words[2])] });
+    } else if (kind === 'ALARM') {
+      this.run.alarms.push({ cycle, name: 'PROG' });
     } else if (kind === 'STOLEN') {
       this.run.stolen.set(cycle / this.run.slice, Number(words[2]));
     }
@@ -304,6 +306,7 @@ const sets = executive.rows.map((bars, set) => new Row(`SET ${set}`, bars));
 const idle = new Row('idle', executive.idle);
 const services = new Row('interrupts', run.services.filter((service) => service.to !== null));
 const tasks = new Ticks('tasks', reader.waitlist.calls);
+const alarms = new Ticks('alarms', run.alarms);
 const marks = new Ticks('marks', run.hits);
 const stolen = new Stolen(run.slice, run.stolen, run.end);
 const view = { from: run.from, to: Math.max(run.end, run.from + 1) };
@@ -314,12 +317,12 @@ const GRAPH = 64;
 const BAND = 40;
 const AXIS = 24;
 const LABEL_FROM = 26; // the width from which a bar has a label
-const COLOURS = { grid: '#2b2f30', text: '#b9bab2', used: '#4f9d69', full: '#ff5f52', idle: '#6f7a80', service: '#c7a544', task: '#8ab4f8', mark: '#ff8f5a', stolen: '#c06bd0' };
+const COLOURS = { grid: '#2b2f30', text: '#b9bab2', used: '#4f9d69', full: '#ff5f52', idle: '#6f7a80', service: '#c7a544', task: '#8ab4f8', alarm: '#ff4fa3', mark: '#ff8f5a', stolen: '#c06bd0' };
 
 const chart = find('chart');
 const pen = chart.getContext('2d');
 const top0 = 8 + GRAPH + 8;
-const lanes = [...sets, idle, services, tasks, marks].map((row, i) => ({ row, y: top0 + i * ROW }));
+const lanes = [...sets, idle, services, tasks, alarms, marks].map((row, i) => ({ row, y: top0 + i * ROW }));
 const bandTop = top0 + lanes.length * ROW + 8;
 const height = bandTop + BAND + AXIS;
 let width = 0;
@@ -472,6 +475,7 @@ function draw() {
   let rectangles = 0;
   for (const lane of lanes) {
     if (lane.row === tasks) drawTicks(lane, COLOURS.task, lane.y + 2);
+    else if (lane.row === alarms) drawTicks(lane, COLOURS.alarm, 8);
     else if (lane.row === marks) drawTicks(lane, COLOURS.mark, 8);
     else rectangles += drawBars(lane);
   }
@@ -484,6 +488,9 @@ function draw() {
 }
 
 const SHORTEST = 40; // cycles in view
+const AROUND_ALARM = 85333; // cycles that the button of an alarm shows: a second
+const MOST_LISTED = 50; // alarms that have a button
+const STILL = 4; // points that the pointer may move in a click
 
 let isAwaited = false; // whether a drawing is due with the next frame of the browser
 let dragged = null;
@@ -558,6 +565,15 @@ function aboutBar(row, bar) {
 
 const placeOf = ({ loc, bankset, name }) => (name.startsWith(loc) ? name : `${loc} ${bankset} ${name}`);
 
+// What a tick of a row is.
+const TICKS = new Map([[tasks, 'a task that T3RUPT calls'], [alarms, 'an alarm: the PROG lamp goes on'], [marks, 'a marked order']]);
+
+// Returns the tick at a place of the chart, or nothing.
+function tickAt(x, y) {
+  const lane = lanes[Math.floor((y - top0) / ROW)];
+  return lane?.row instanceof Ticks ? lane.row.near(cycleAt(x), 5 / scale()) : null;
+}
+
 // Returns what is at a place of the chart, or nothing.
 function aboutPlace(x, y) {
   const cycle = cycleAt(x);
@@ -572,8 +588,8 @@ function aboutPlace(x, y) {
     return y < bandTop ? '' : `cycle ${Math.floor(cycle)}: counters take ${(100 * share).toFixed(1)} of 100 cycles, in a slice of ${run.slice} cycles`;
   }
   if (lane.row instanceof Ticks) {
-    const tick = lane.row.near(cycle, 5 / scale());
-    return tick ? `${tick.name}: ${lane.row === tasks ? 'a task that T3RUPT calls' : 'a marked order'}${LINE}at cycle ${tick.cycle}, ${(tick.cycle / CYCLES_A_SECOND).toFixed(6)} s` : '';
+    const tick = tickAt(x, y);
+    return tick ? `${tick.name}: ${TICKS.get(lane.row)}${LINE}at cycle ${tick.cycle}, ${(tick.cycle / CYCLES_A_SECOND).toFixed(6)} s` : '';
   }
   const bar = lane.row.at(cycle) ?? lane.row.at(cycleAt(x + 1));
   return bar ? aboutBar(lane.row, bar) : '';
@@ -585,14 +601,22 @@ function onMove(event) {
 }
 
 function onDown(event) {
-  dragged = { x: event.offsetX, from: view.from, scale: scale() };
+  dragged = { x: event.offsetX, y: event.offsetY, from: view.from, scale: scale() };
   chart.setPointerCapture(event.pointerId);
   chart.classList.add('dragged');
 }
 
-function onUp() {
+function onUp(event) {
+  if (dragged && event.type === 'pointerup' && Math.hypot(event.offsetX - dragged.x, event.offsetY - dragged.y) < STILL) choose(event.offsetX, event.offsetY);
   dragged = null;
   chart.classList.remove('dragged');
+}
+
+// Names the cycle that is clicked to the page that shows the timeline inside, if one does.
+function choose(x, y) {
+  if (window.parent === window || x < GUTTER) return;
+  const cycle = tickAt(x, y)?.cycle ?? Math.round(Math.min(Math.max(cycleAt(x), run.from), run.end));
+  window.parent.postMessage({ timeline: 'cycle', cycle }, '*');
 }
 
 // Fills the table of the jobs by name, those first that had the processor most.
@@ -607,6 +631,19 @@ function fillTable() {
     }
     find('jobs-table').append(line);
   }
+}
+
+// Lists the alarms, each with a button that shows the run around it.
+function listAlarms() {
+  if (!run.alarms.length) return;
+  const { alarms: all } = run;
+  const rest = all.length > MOST_LISTED ? `, and ${all.length - MOST_LISTED} more` : '';
+  find('alarms').append('Alarms, at which the PROG lamp goes on: ', ...all.slice(0, MOST_LISTED).map(({ cycle }) => {
+    const text = `${(cycle / CYCLES_A_SECOND).toFixed(3)} s, cycle ${cycle}`;
+    const button = Object.assign(document.createElement('button'), { textContent: text });
+    button.addEventListener('click', () => show(cycle - AROUND_ALARM / 2, AROUND_ALARM));
+    return button;
+  }), rest);
 }
 
 // '#from=5100000&to=5330000' shows these cycles; another text is ignored.
@@ -627,7 +664,9 @@ function start() {
   for (const kind of ['pointerup', 'pointercancel']) chart.addEventListener(kind, onUp);
   window.addEventListener('resize', draw);
   window.addEventListener('hashchange', followHash);
+  document.body.classList.toggle('framed', window.parent !== window);
   fillTable();
+  listAlarms();
   draw();
   followHash();
 }

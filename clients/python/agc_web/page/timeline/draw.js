@@ -4,12 +4,12 @@ const GRAPH = 64;
 const BAND = 40;
 const AXIS = 24;
 const LABEL_FROM = 26; // the width from which a bar has a label
-const COLOURS = { grid: '#2b2f30', text: '#b9bab2', used: '#4f9d69', full: '#ff5f52', idle: '#6f7a80', service: '#c7a544', task: '#8ab4f8', mark: '#ff8f5a', stolen: '#c06bd0' };
+const COLOURS = { grid: '#2b2f30', text: '#b9bab2', used: '#4f9d69', full: '#ff5f52', idle: '#6f7a80', service: '#c7a544', task: '#8ab4f8', alarm: '#ff4fa3', mark: '#ff8f5a', stolen: '#c06bd0' };
 
 const chart = find('chart');
 const pen = chart.getContext('2d');
 const top0 = 8 + GRAPH + 8;
-const lanes = [...sets, idle, services, tasks, marks].map((row, i) => ({ row, y: top0 + i * ROW }));
+const lanes = [...sets, idle, services, tasks, alarms, marks].map((row, i) => ({ row, y: top0 + i * ROW }));
 const bandTop = top0 + lanes.length * ROW + 8;
 const height = bandTop + BAND + AXIS;
 let width = 0;
@@ -162,6 +162,7 @@ function draw() {
   let rectangles = 0;
   for (const lane of lanes) {
     if (lane.row === tasks) drawTicks(lane, COLOURS.task, lane.y + 2);
+    else if (lane.row === alarms) drawTicks(lane, COLOURS.alarm, 8);
     else if (lane.row === marks) drawTicks(lane, COLOURS.mark, 8);
     else rectangles += drawBars(lane);
   }

@@ -167,7 +167,7 @@ class Waitlist {
 // Reads the lines of the run.
 class Reader {
   constructor() {
-    this.run = { rope: '', script: '', limit: '', from: 0, end: null, reason: '', slice: 1, marks: [], hits: [], services: [], stolen: new Map() };
+    this.run = { rope: '', script: '', limit: '', from: 0, end: null, reason: '', slice: 1, marks: [], hits: [], alarms: [], services: [], stolen: new Map() };
     this.executive = new Executive();
     this.waitlist = new Waitlist();
   }
@@ -196,6 +196,8 @@ class Reader {
       this.waitlist.serve('');
     } else if (kind === 'MARK') {
       this.run.hits.push({ cycle, name: this.run.marks[Number(words[2])] });
+    } else if (kind === 'ALARM') {
+      this.run.alarms.push({ cycle, name: 'PROG' });
     } else if (kind === 'STOLEN') {
       this.run.stolen.set(cycle / this.run.slice, Number(words[2]));
     }

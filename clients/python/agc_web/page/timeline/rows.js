@@ -80,6 +80,7 @@ const sets = executive.rows.map((bars, set) => new Row(`SET ${set}`, bars));
 const idle = new Row('idle', executive.idle);
 const services = new Row('interrupts', run.services.filter((service) => service.to !== null));
 const tasks = new Ticks('tasks', reader.waitlist.calls);
+const alarms = new Ticks('alarms', run.alarms);
 const marks = new Ticks('marks', run.hits);
 const stolen = new Stolen(run.slice, run.stolen, run.end);
 const view = { from: run.from, to: Math.max(run.end, run.from + 1) };

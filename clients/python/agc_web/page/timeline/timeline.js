@@ -1,4 +1,7 @@
 const SHORTEST = 40; // cycles in view
+const AROUND_ALARM = 85333; // cycles that the button of an alarm shows: a second
+const MOST_LISTED = 50; // alarms that have a button
+const STILL = 4; // points that the pointer may move in a click
 
 let isAwaited = false; // whether a drawing is due with the next frame of the browser
 let dragged = null;
@@ -73,6 +76,15 @@ function aboutBar(row, bar) {
 
 const placeOf = ({ loc, bankset, name }) => (name.startsWith(loc) ? name : `${loc} ${bankset} ${name}`);
 
+// What a tick of a row is.
+const TICKS = new Map([[tasks, 'a task that T3RUPT calls'], [alarms, 'an alarm: the PROG lamp goes on'], [marks, 'a marked order']]);
+
+// Returns the tick at a place of the chart, or nothing.
+function tickAt(x, y) {
+  const lane = lanes[Math.floor((y - top0) / ROW)];
+  return lane?.row instanceof Ticks ? lane.row.near(cycleAt(x), 5 / scale()) : null;
+}
+
 // Returns what is at a place of the chart, or nothing.
 function aboutPlace(x, y) {
   const cycle = cycleAt(x);
@@ -87,8 +99,8 @@ function aboutPlace(x, y) {
     return y < bandTop ? '' : `cycle ${Math.floor(cycle)}: counters take ${(100 * share).toFixed(1)} of 100 cycles, in a slice of ${run.slice} cycles`;
   }
   if (lane.row instanceof Ticks) {
-    const tick = lane.row.near(cycle, 5 / scale());
-    return tick ? `${tick.name}: ${lane.row === tasks ? 'a task that T3RUPT calls' : 'a marked order'}${LINE}at cycle ${tick.cycle}, ${(tick.cycle / CYCLES_A_SECOND).toFixed(6)} s` : '';
+    const tick = tickAt(x, y);
+    return tick ? `${tick.name}: ${TICKS.get(lane.row)}${LINE}at cycle ${tick.cycle}, ${(tick.cycle / CYCLES_A_SECOND).toFixed(6)} s` : '';
   }
   const bar = lane.row.at(cycle) ?? lane.row.at(cycleAt(x + 1));
   return bar ? aboutBar(lane.row, bar) : '';
@@ -100,14 +112,22 @@ function onMove(event) {
 }
 
 function onDown(event) {
-  dragged = { x: event.offsetX, from: view.from, scale: scale() };
+  dragged = { x: event.offsetX, y: event.offsetY, from: view.from, scale: scale() };
   chart.setPointerCapture(event.pointerId);
   chart.classList.add('dragged');
 }
 
-function onUp() {
+function onUp(event) {
+  if (dragged && event.type === 'pointerup' && Math.hypot(event.offsetX - dragged.x, event.offsetY - dragged.y) < STILL) choose(event.offsetX, event.offsetY);
   dragged = null;
   chart.classList.remove('dragged');
+}
+
+// Names the cycle that is clicked to the page that shows the timeline inside, if one does.
+function choose(x, y) {
+  if (window.parent === window || x < GUTTER) return;
+  const cycle = tickAt(x, y)?.cycle ?? Math.round(Math.min(Math.max(cycleAt(x), run.from), run.end));
+  window.parent.postMessage({ timeline: 'cycle', cycle }, '*');
 }
 
 // Fills the table of the jobs by name, those first that had the processor most.
@@ -122,6 +142,19 @@ function fillTable() {
     }
     find('jobs-table').append(line);
   }
+}
+
+// Lists the alarms, each with a button that shows the run around it.
+function listAlarms() {
+  if (!run.alarms.length) return;
+  const { alarms: all } = run;
+  const rest = all.length > MOST_LISTED ? `, and ${all.length - MOST_LISTED} more` : '';
+  find('alarms').append('Alarms, at which the PROG lamp goes on: ', ...all.slice(0, MOST_LISTED).map(({ cycle }) => {
+    const text = `${(cycle / CYCLES_A_SECOND).toFixed(3)} s, cycle ${cycle}`;
+    const button = Object.assign(document.createElement('button'), { textContent: text });
+    button.addEventListener('click', () => show(cycle - AROUND_ALARM / 2, AROUND_ALARM));
+    return button;
+  }), rest);
 }
 
 // '#from=5100000&to=5330000' shows these cycles; another text is ignored.
@@ -142,7 +175,9 @@ function start() {
   for (const kind of ['pointerup', 'pointercancel']) chart.addEventListener(kind, onUp);
   window.addEventListener('resize', draw);
   window.addEventListener('hashchange', followHash);
+  document.body.classList.toggle('framed', window.parent !== window);
   fillTable();
+  listAlarms();
   draw();
   followHash();
 }
