@@ -69,6 +69,18 @@ def try_example_lines():
     page.close()
 
 
+def try_ignored(page, folder, place):
+    """A breakpoint passes over two hits, as the trace has them, and stops at the third."""
+    cycle = page.value('now.cycle')
+    traced = web.causes.traced(os.path.join(folder, 'rope'), page.site.script(), cycle + 2_000_000, '--at', place, '--from', str(cycle + 1))
+    third = [int(line.split()[0]) for line in traced if ' - ' not in line][2]
+    page.value(f"ask('ignore', {{ place: '{place}', hits: 2 }}).then(() => 0)")
+    judge('two hits are to be passed over', {place: 2}, page.see('shown.ignored', {place: 2}))
+    page.value("ask('play').then(() => 0)")
+    judge('the third stops time', [False, third], page.see('[now.playing, now.cycle]', [False, third]))
+    judge('none is left', {}, page.value('shown.ignored'))
+
+
 def try_own_lines():
     """A program that is written in the page is followed in the editor; a click at a number is a breakpoint; a change ends that."""
     page = WritingPage(LocalSite(example('verbs', 'rope')))
@@ -89,6 +101,7 @@ def try_own_lines():
     judge('it is hit', (place, [line]), (page.see('now.hit', place), page.see(OWN, [line])))
     cycle = page.value('now.cycle')
     judge('where the trace has it', place, listed.physical(listed.traced(folder, page.site.script(), [cycle])[cycle]))
+    try_ignored(page, folder, place)
     try_name(page, lines)
     if web.PICTURES:
         page.window.picture(os.path.join(web.PICTURES, 'page-source.png'))

@@ -129,4 +129,20 @@ def try_dropped_files():
     page.close()
 
 
-TRIES = (try_landing, try_dropped_files)
+def try_lamp():
+    """The plot has a line at the cycle at which the PROG lamp went on, as agc's log has it. There is no tab Timeline: agc-study makes that."""
+    rope, script, lit = quantities.lamp_rope()
+    page = LocalPage(LocalSite(rope, script))
+    dropped(page, 'quantities', 'count 0100 single B14\n')
+    page.value("showTab('plot')")
+    page.value("ask('speed', { times: 10 }).then(() => ask('play')).then(() => 0)")
+    judge('time runs', True, wait(lambda: page.value('now.cycle') > 700000))
+    page.pause()
+    judge('the alarm', [lit], page.see('plot.alarms.map(({ cycle }) => cycle)', [lit]))
+    words = f'Pink: the PROG lamp goes on at {lit * 3 / 256000:.3f} s.'
+    judge('in words', words, page.see("find('plot-alarms').textContent", words))
+    judge('no timeline', [None, False], page.value("[find('timeline-tab'), find('timeline').checkVisibility()]"))
+    page.close()
+
+
+TRIES = (try_landing, try_dropped_files, try_lamp)

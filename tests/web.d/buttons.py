@@ -51,6 +51,12 @@ class Flight:
         end = self.cycle() + seconds * A_SECOND
         judge('time goes on', True, wait(lambda: self.cycle() >= end, 600))
 
+    def ends(self):
+        """Flies on as fast as it goes; returns whether the flight ends."""
+        self.site.do('speed', times=1000)
+        with self.window.frozen():
+            return wait(self.outcome, 600)
+
     def click(self, label):
         """Clicks a button of the page; returns the cycle before that."""
         before = self.cycle()
@@ -69,8 +75,7 @@ def try_buttons():
     flight.begin()
     moved = redesignate(flight)
     lose_radar(flight)
-    flight.site.do('speed', times=1000)
-    judge('it comes to the ground', True, wait(flight.outcome, 600))
+    judge('it comes to the ground', True, flight.ends())
     flight.site.do('pause')
     found = re.fullmatch(r'Landed: [01]\.\d\d m/s, (\d+) m from the site', flight.outcome())
     judge(f'it lands: {flight.outcome()}', True, found is not None)
@@ -171,8 +176,7 @@ def abort(flight):
     flight.site.do('speed', times=10)
     judge('program 70', True, wait(lambda: flight.program() == '70', 600))
     judge('what was typed', [f'key {key}' for key in 'VERB 3 7 ENTR 7 0 ENTR'.split()], [each for each in flight.since(before) if each.startswith('key ')])
-    flight.site.do('speed', times=1000)
-    judge('it comes to an orbit', True, wait(lambda: flight.outcome(), 600))
+    judge('it comes to an orbit', True, flight.ends())
     judge(f'the orbit: {flight.outcome()}', True, re.fullmatch(r'Aborted: orbit of [78]\d by 1[678] km', flight.outcome()) is not None)
     judge('noun 44', True, wait(lambda: flight.site.state()['panel']['NOUN'] == '44', 600))
 

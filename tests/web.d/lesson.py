@@ -33,12 +33,12 @@ def try_lesson():
     wait(lambda: window.value("isLit('OPR ERR')"))
     press(window, 'the lamp OPR ERR', '#face ')
     leads(window, lines, 'the lamp', 300_010, 'WRITE LAMPS', 'the lamp OPR ERR was last changed at 3.516 s, cycle 300,010, by '
-          'WRITE 011 > 011 00100 at LIGHT +1. Time stands before it. ↶ Undo going back')
+          'WRITE LAMPS > 011 00100 at LIGHT +1. Time stands before it. ↶ Undo going back')
     judge('the line is behind LIGHT', 'LIGHT   EXTEND', lines[window.value(LIT)[0] - 1][2].split('#')[0].strip())
     window.value("showTab('watch'); addWatch('LEFT'); undefined")
     judge('LEFT is -0', ['77777'], see(window, WORDS, ['77777']))
     press(window, 'LEFT', '#watched ')
-    leads(window, lines, 'LEFT', 255_803, 'ADS LEFT', 'LEFT was last changed at 2.998 s, cycle 255,803, by ADS 0100 at TICK +6. '
+    leads(window, lines, 'LEFT', 255_803, 'ADS LEFT', 'LEFT was last changed at 2.998 s, cycle 255,803, by ADS LEFT at TICK +6. '
           'Time stands before it. ↶ Undo going back')
     window.value("showTab('watch'); undefined")
     judge('LEFT was 1', ['00001'], see(window, WORDS, ['00001']))

@@ -8,7 +8,7 @@ import os
 import shutil
 import subprocess
 
-from judge import TOP, judge, scratch_folder
+from judge import AGC, STUDY, TOP, judge, scratch_folder
 from site_of import example, started, wait
 from views import opened, see
 
@@ -306,6 +306,67 @@ def try_csv(window):
     judge('its seconds', True, abs(float(row[1]) - cycle * 3 / 256000) < 3 / 512000)
 
 
+LAMP_WORDS = """4000 14000 TCF 4000
+4024 34030 CA 4030
+4025 00006 EXTEND
+4026 01010 WRITE 10
+4027 50017 RESUME
+4030 60400 the lamp PROG
+"""
+LAMP_SCRIPT = '600000 key VERB\n'
+
+
+def lamp_rope():
+    """A rope that lights PROG for a key, a script with that key, and the cycle of the write in agc's log."""
+    words, rope, script = (os.path.join(FOLDER, name) for name in ('lamp-words', 'lamp-rope', 'lamp-script'))
+    for path, text in ((words, LAMP_WORDS), (script, LAMP_SCRIPT)):
+        with open(path, 'w', encoding='ascii') as file:
+            file.write(text)
+    with open(rope, 'wb') as file:
+        subprocess.run([STUDY, 'weave', words], stdout=file, check=True)
+    log = subprocess.run([AGC, rope, script, '--limit', '700000', '--log'], capture_output=True, text=True, check=True).stdout
+    return rope, script, next(int(line.split()[0]) for line in log.splitlines() if line.endswith(' 010 60400'))
+
+
+def try_lamp():
+    """The plot has a line where the PROG lamp went on: at the very cycle once time stands, also after a jump, until time goes back."""
+    rope, script, lit = lamp_rope()
+    file = os.path.join(FOLDER, 'lamp-quantities')
+    with open(file, 'w', encoding='ascii') as out:
+        out.write('count 0100 single B14\n')
+    site = started(rope, script, '--quantities', file)
+    window = opened(site)
+    open_tab(window, 'plot')
+    see(window, 'plot.samples.length', 1)
+    said = "document.getElementById('plot-alarms').textContent"
+    judge('no alarm yet', '', window.value(said))
+    site.do('speed', times=10)
+    site.do('play')
+    wait(lambda: window.value('now.cycle') > 900000)
+    site.do('pause')
+    alarms, words = 'plot.alarms.map(({ cycle }) => cycle)', f'Pink: the PROG lamp goes on at {lit * 3 / 256000:.3f} s.'
+    judge('the alarm', ([lit], words), (see(window, alarms, [lit]), see(window, said, words)))
+    pink = """(() => {
+        const { data } = find('plot-canvas').getContext('2d').getImageData(0, 30, find('plot-canvas').width, 1);
+        const found = [...Array(data.length / 4).keys()].filter((x) => data[4 * x] > 150 && data[4 * x + 1] < 120 && data[4 * x + 2] > 90);
+        return found.length ? found.reduce((one, other) => one + other) / found.length + 0.5 : 0;
+    })()"""
+    place = place_of(window, lit)[0] - place_of(window, 0)[0] + 58
+    judge('its line', True, wait(lambda: abs(window.value(pink) - place) < 2))
+    site.do('go', cycle=300000)
+    judge('before it there is none', [], see(window, alarms, []))
+    judge('and no line', 0, see(window, pink, 0))
+    site.do('undo')
+    judge('undo brings it back', [lit], see(window, alarms, [lit]))
+    site.do('go', cycle=300000)
+    see(window, alarms, [])
+    site.do('go', cycle=800000)
+    judge('after a jump it is where it was', [lit], see(window, alarms, [lit]))
+    judge('errors of the page', [], window.errors())
+    window.close()
+    site.end()
+
+
 def try_thinned():
     """However many samples come, few are kept, and with them each curve's least and greatest, and gaps."""
     site = started(example('keys', 'rope'), '--quantities', poked()[1])
@@ -367,4 +428,4 @@ def try_phone():
     site.end()
 
 
-TRIES = (try_watch, try_wrong, try_beside, try_ranges, try_plot, try_thinned, try_phone)
+TRIES = (try_watch, try_wrong, try_beside, try_ranges, try_plot, try_lamp, try_thinned, try_phone)

@@ -30,7 +30,7 @@ CHANNELS = {
 }
 """A part of what stands beside each channel, which stands beside no other."""
 
-BREAKS = 'Time stops before the order, or after the write or the change. Going back ends before it.'
+BREAKS = 'Time stops before the order, or after the write or the change. Going back ends before it. Ignore passes over as many hits.'
 OPTIONS = {
     '--names FILE': 'gives places names', '--watch SPEC': "Executive's tables", '--guide FILE': 'guided steps', '--listing FILE': "the source's lines",
     '--quantities FILE': 'what cells hold, in units', '--nouns FILE': 'verbs and nouns', '--port N': 'the port (8437, or a free one)',

@@ -38,6 +38,7 @@ import listed
 import listens
 import looks
 import nouns
+import operands
 import quantities
 import rooms
 import stepped
@@ -1412,7 +1413,7 @@ def try_face():
     """The film's page in its crate is what the files of the face and of the film give."""
     script = os.path.join(TOP, 'clients', 'python', 'agc_web', 'page', 'generate')
     done = subprocess.run([sys.executable, '-B', script, '--check'], capture_output=True, text=True)
-    judge('the constants of the film', (0, '6 passed, 0 failed\n', ''), (done.returncode, done.stdout, done.stderr))
+    judge('the constants of the film', (0, '7 passed, 0 failed\n', ''), (done.returncode, done.stdout, done.stderr))
 
 
 def try_random():
@@ -1586,7 +1587,7 @@ TRIES = (
     try_writes, try_views, try_full, try_look, try_rate, try_latency, try_killed, try_end, try_blanks, try_two, try_command,
     try_serve, try_gone, try_hangup, try_lander, try_late_view, try_names_and_pictures, try_stop, try_random, try_face,
     try_client, *ends.TRIES, *rooms.TRIES, *times.TRIES, *found.TRIES, *listens.TRIES, *looks.TRIES, *quantities.TRIES,
-    *nouns.TRIES, *timelines.TRIES, *causes.TRIES, *stepped.TRIES, *lesson.TRIES, *texts.TRIES,
+    *nouns.TRIES, *timelines.TRIES, *causes.TRIES, *stepped.TRIES, *lesson.TRIES, *operands.TRIES, *texts.TRIES,
 )
 
 

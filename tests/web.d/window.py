@@ -1,5 +1,6 @@
 """A window of a browser that shows agc-web: the browser of tests/film, which may reach 127.0.0.1."""
 import base64
+import contextlib
 import os
 import sys
 
@@ -45,6 +46,16 @@ class Window(browser.Browser):
         """Makes the page as large as this, and waits until it is."""
         self.ask('Emulation.setDeviceMetricsOverride', width=width, height=height, deviceScaleFactor=scale, mobile=False)
         wait(lambda: self.value('[innerWidth, innerHeight]') == [width, height])
+
+    @contextlib.contextmanager
+    def frozen(self):
+        """Has the page stand still meanwhile, as a browser has one in the background: what the machine does then is not drawn. Later the
+        page takes the news that have come."""
+        self.ask('Page.setWebLifecycleState', state='frozen')
+        try:
+            yield
+        finally:
+            self.ask('Page.setWebLifecycleState', state='active')
 
     def picture(self, path):
         """Writes what the window shows."""

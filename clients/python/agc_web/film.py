@@ -36,6 +36,7 @@ class Films:
     names: Optional[str] = None  # the file of names
     watch: Optional[str] = None  # where the Executive's tables are
     nouns: Optional[str] = None  # the text of the file of verbs and nouns
+    _kept: Optional[bytes] = None  # the timeline that was made last
     _one_at_a_time: Any = field(default_factory=threading.Lock)
     _process: Optional["subprocess.Popen[bytes]"] = None
     _closing: bool = False
@@ -50,6 +51,16 @@ class Films:
             raise Unable("a timeline needs to know where the Executive's tables are: --watch SPEC, or a file ROPE.watch")
         names = ["--names", os.path.abspath(self.names)] if self.names else []
         return self._page(repeat, "jobs", "--watch", self.watch, "--timeline", TIMELINE, *names)
+
+    def keep_timeline(self, repeat: Repeat) -> None:
+        """Makes the page of a timeline, and keeps it. Raises `Unable` if there is none."""
+        self._kept = self.timeline(repeat)
+
+    def kept_timeline(self) -> bytes:
+        """Returns the page of the timeline that was made last. Raises `Unable` if there is none."""
+        if self._kept is None:
+            raise Unable("no timeline was made yet")
+        return self._kept
 
     def _page(self, repeat: Repeat, command: str, *more: str) -> bytes:
         """Returns the page that a command of agc-study makes, in a folder of its own."""

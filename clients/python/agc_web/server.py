@@ -42,9 +42,10 @@ TYPES = {
 NAMED = re.compile(r'(?:src|href)="([a-z]+/[a-z]+\.[a-z]+)"')  # a file that the page names
 POLICY = (
     "default-src 'none'; script-src 'self'; style-src 'self'; connect-src 'self' {streams}; img-src 'self'; "
-    "base-uri 'none'; form-action 'none'; frame-ancestors 'none'"
+    "frame-src 'self'; base-uri 'none'; form-action 'none'; frame-ancestors 'none'"
 )
 FILM_POLICY = "sandbox allow-scripts; default-src 'none'; script-src 'unsafe-inline'; style-src 'unsafe-inline'"
+FRAMED = {"Content_Security_Policy": f"{FILM_POLICY}; frame-ancestors 'self'", "X_Frame_Options": "SAMEORIGIN"}  # in our own page
 
 
 class BadRequest(Exception):
@@ -299,6 +300,8 @@ class Handler(BaseHTTPRequestHandler):
                        Content_Disposition='attachment; filename="session.script"')
         elif path == "/film":
             self._send_film()
+        elif path == "/timeline" and self._word("kept"):
+            self._send_made(self.server.films.kept_timeline, **FRAMED)
         elif path == "/timeline":
             self._send_made(lambda: self.server.films.timeline(self.server.session.repeat()))
         elif path == "/source":
@@ -350,10 +353,10 @@ class Handler(BaseHTTPRequestHandler):
             views = self.server.session.past_views()
         self._send_made(lambda: self.server.films.make(repeat, views))
 
-    def _send_made(self, make: Callable[[], bytes]) -> None:
+    def _send_made(self, make: Callable[[], bytes], **more: str) -> None:
         """Sends a page that agc-study makes. It is separated from ours: it cannot reach this server."""
         try:
-            self._send(make(), TYPES[".html"], Content_Security_Policy=FILM_POLICY)
+            self._send(make(), TYPES[".html"], HTTPStatus.OK, **{"Content_Security_Policy": FILM_POLICY, **more})
         except Unable as unable:
             self._send(str(unable).encode(), "text/plain; charset=utf-8", HTTPStatus.CONFLICT)
 
@@ -372,6 +375,10 @@ class Handler(BaseHTTPRequestHandler):
         elif path == "/search":
             before = item(body, "before", int) if "before" in body else None
             self._send_json(self.server.session.search(lines_of(body, SEARCHES), before))
+        elif path == "/timeline":
+            repeat = self.server.session.repeat()
+            self.server.films.keep_timeline(repeat)
+            self._send_json({"cycle": repeat.limit})
         else:
             raise BadRequest(HTTPStatus.NOT_FOUND, "there is no such page")
 
@@ -443,6 +450,7 @@ COMMANDS: Dict[str, Callable[[Server, Dict[str, Any]], None]] = {
     "undo": lambda server, body: server.session.undo(body.get("sure") is True),
     "break": lambda server, body: server.session.add_breakpoint(item(body, "place", str)),
     "unbreak": lambda server, body: server.session.remove_breakpoint(item(body, "place", str)),
+    "ignore": lambda server, body: server.session.ignore_hits(item(body, "place", str), item(body, "hits", int)),
     "control": lambda server, body: server.hold(
         item(body, "window", str), item(body, "down", bool), (item(body, "instrument", int), item(body, "name", str))
     ),

@@ -29,6 +29,7 @@ AHEAD = 12  # coming boundaries that are shown
 LONGEST_STEP = 1_000_000  # cycles that `over` and `finish` may take
 FULL = "Time stops: the script is full, with 65,536 events. Going back makes room."
 MOST_BREAKPOINTS = 8
+MOST_IGNORED = 1_000_000  # hits of a breakpoint
 MOST_WAITING = 100  # keys
 WAKE = 0.01  # seconds between two pieces
 RESTING = 0.25  # seconds between two looks whether the console is still there, if time stands
@@ -96,6 +97,7 @@ class Session:
         self._clock = Clock()
         self._keyboard = Keyboard()
         self._breakpoints: Dict[str, int] = {}  # the console's numbers, by the texts of the user
+        self._ignored: Dict[str, int] = {}  # how many hits of a breakpoint are passed over from now on, if any
         self._searcher = Searcher(console)
         self._ticker = Ticker(instruments)
         self._undo: List[Undo] = []
@@ -235,12 +237,24 @@ class Session:
                 break
 
     def _hit_before(self, cycle: int) -> Optional[str]:
-        """Goes on to a cycle, or to the first breakpoint before it, and returns that one."""
+        """Goes on to a cycle, or to the first hit before it that is not passed over, and returns its breakpoint."""
         if not self._breakpoints:
             self.console.go_to(cycle)
             return None
-        hit = self.console.continue_(cycle - self.console.cycle).breakpoint
-        return next((text for text, number in self._breakpoints.items() if hit and hit.number == number), None)
+        while True:
+            hit = self.console.continue_(cycle - self.console.cycle).breakpoint
+            text = next((text for text, number in self._breakpoints.items() if hit and hit.number == number), None)
+            if text is None or not self._passes_over(text):
+                return text
+            if self.console.cycle >= cycle:
+                return None
+
+    def _passes_over(self, text: str) -> bool:
+        """Counts a hit of a breakpoint, and returns whether it is passed over."""
+        left = self._ignored.pop(text, 0)
+        if left > 1:
+            self._ignored[text] = left - 1
+        return left > 0
 
     def _stages(self, target: int, with_keys: bool) -> Iterator[int]:
         """Yields the cycles to which to go on one after another, up to a target: those at which a key or a tick is due. These are
@@ -497,6 +511,19 @@ class Session:
     def remove_breakpoint(self, text: str) -> None:
         if text in self._breakpoints:
             self.console.delete(self._breakpoints.pop(text))
+            self._ignored.pop(text, None)
+        self._publish_time()
+
+    @_on_machine
+    def ignore_hits(self, text: str, count: int) -> None:
+        """Passes over the next hits of a breakpoint, this number of them; going back keeps what is left of it."""
+        if text not in self._breakpoints:
+            raise ValueError(f"no breakpoint: {text!r:.82}")
+        if not 0 <= count <= MOST_IGNORED:
+            raise ValueError(f"hits to ignore are 0 to {MOST_IGNORED:,}")
+        self._ignored.pop(text, None)
+        if count:
+            self._ignored[text] = count
         self._publish_time()
 
     # what the page is shown
@@ -546,6 +573,7 @@ class Session:
 
     def _publish_time(self) -> None:
         self.news.publish("breakpoints", self.breakpoints)
+        self.news.publish("ignored", self._ignored)
         self.news.publish("time", {
             "cycle": self.console.cycle, "furthest": self.furthest, "playing": self.playing,
             "speed": self._clock.speed, "pace": round(self._clock.pace, 2), "stop": self.console.stop, "ended": self.ended,

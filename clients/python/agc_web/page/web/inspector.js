@@ -3,6 +3,7 @@
 
 const LOOK_EVERY = 200; // milliseconds between two looks while time goes on
 const MOST_CELLS = 64; // that the server takes in a request
+const MOST_IGNORED = 1000000; // hits of a breakpoint
 const BITS = { a: 16, q: 16 };
 const BANKED = { z: 4, eb: 1, fb: 2, bb: 5 }; // digits of the registers that are no numbers
 const CHANNELS = [
@@ -11,7 +12,7 @@ const CHANNELS = [
   [0o16, 'key of the navigation DSKY, marks'], [0o30, 'inputs: stage, engine, IMU'], [0o31, 'inputs: hand controllers, modes'],
   [0o32, 'inputs: thrusters, PRO'], [0o33, 'inputs: radar, optics, PIPA'], [0o34, 'downlink, first word'], [0o35, 'downlink, second word'],
 ];
-const TABS = { orders: 'Orders', memory: 'Memory', watch: 'Watch', plot: 'Plot', channels: 'Channels', tables: 'Tables', why: 'Alarm', breaks: 'Breaks', script: 'Script', source: 'Source' };
+const TABS = { orders: 'Orders', memory: 'Memory', watch: 'Watch', plot: 'Plot', timeline: 'Timeline', channels: 'Channels', tables: 'Tables', why: 'Alarm', breaks: 'Breaks', script: 'Script', source: 'Source' };
 
 const inspector = { tab: 'orders', bank: 0, words: null, watched: [], looking: false, stale: false, lookedAt: 0, cycle: -1, events: -1 };
 
@@ -57,7 +58,7 @@ function moveTab(event) {
 // registers and boundaries
 
 function showMachine({ next, registers }) {
-  setText(find('next'), next);
+  setText(find('next'), comingByName(next, registers));
   for (const [name, word] of Object.entries(registers)) {
     const bits = BITS[name] || 15;
     setText(find(`register-${name}`), octal(word, BANKED[name] || Math.ceil(bits / 3)));
@@ -73,11 +74,11 @@ function buildRegisters() {
   }
 }
 
-// Takes a line of a trace apart: its cycle, what happened, and the registers after it.
+// Takes a line of a trace apart: its cycle, what happened, an operand by its name, and the registers after it.
 function boundary(line) {
   const [what, after = ''] = line.split(' | ');
   const space = what.indexOf(' ');
-  return { cycle: Number(what.slice(0, space)), what: what.slice(space + 1), after };
+  return { cycle: Number(what.slice(0, space)), what: happenedByName(what.slice(space + 1), after), after };
 }
 
 // Shows the last boundaries. The Tab key comes to the last one alone; the arrow keys go on from there.
@@ -268,8 +269,23 @@ function showBreaks(texts) {
     remove.addEventListener('click', () => ask('unbreak', { place: text }));
     const last = make('button', { type: 'button', 'aria-label': `Back to the last ${breakText(text)}` }, '◀');
     last.addEventListener('click', () => backTo(text));
-    return make('li', {}, last, ' ', make('code', {}, breakText(text)), ' ', remove);
+    return make('li', {}, last, ' ', make('code', {}, breakText(text)), ' ', make('span', {}, nameOfBreak(text) ?? ''), ' ', ignoreField(text), ' ', remove);
   }));
+  showIgnored(shown.ignored || {});
+}
+
+// Makes the field for the hits of a breakpoint that are passed over.
+function ignoreField(text) {
+  const field = make('input', { type: 'number', min: 0, max: MOST_IGNORED, step: 1, value: 0, 'data-break': text, 'aria-label': `Hits of the ${breakText(text)} to ignore` });
+  field.addEventListener('change', () => { if (field.reportValidity()) ask('ignore', { place: text, hits: Number(field.value) }); });
+  return make('label', {}, 'ignore ', field);
+}
+
+// Shows how many hits are still passed over, but leaves alone what is being typed.
+function showIgnored(counts) {
+  for (const field of find('breaks').querySelectorAll('input')) {
+    if (field !== document.activeElement) field.value = counts[field.dataset.break] ?? 0;
+  }
 }
 
 function breakText(text) {

@@ -1,8 +1,8 @@
 'use strict';
 // The tab Plot: up to six quantities over machine time. Samples are looks at the session, taken as the page follows it; the cursor is
-// where time stands, and dragging it takes time there. Going back cuts the curves, and undoing that restores them.
+// where time stands, and dragging it takes time there. Going back cuts the curves, and undoing that restores them. Lines across them
+// are alarms: cycles at which the PROG lamp went on.
 
-const MOST_CURVES = 6;
 const MOST_SAMPLES = 4096;
 const BUCKET = 32; // samples of which thinning keeps the first and each curve's least and greatest
 const SAMPLE_EVERY = 200; // milliseconds between two samples at the hardware's pace
@@ -10,26 +10,18 @@ const SAMPLE_SOON = 50; // the same, if time goes faster
 const JUMP = 8533; // cycles that time may go on while it stands without a gap in the curves
 const LEGS = 60; // samples on the way ahead to a cursor
 const MOST_CUTS = 20; // cuts that can be undone
-const CURVE_COLOURS = ['#5dff9b', '#ffcf70', '#9fd0ff', '#ff9d8a', '#d7b3ff', '#f4f4ee'];
-const GRID_COLOUR = '#3d423f';
-const TEXT_COLOUR = '#c9cac2';
-const LEFT = 58; // pixels of the labels of values
-const BOTTOM = 18; // pixels of those of time
-const HEAD = 20; // pixels of a curve's own label
-const LEAST_HEIGHT = 52; // pixels of a curve with its label
-const LABEL_HEIGHT = 14; // pixels of a label of a value
-const AXIS_PARTS = 5;
 const SECONDS = { p: 3n, b: 256000n }; // a cycle's
-const noCurves = () => ({ chosen: [], samples: [], cuts: [], isGap: false, cycle: 0, undo: null, wasPlaying: false });
+const noCurves = () => ({ chosen: [], samples: [], alarms: [], cuts: [], isGap: false, isLit: false, cycle: 0, undo: null, wasPlaying: false });
 
-// `chosen` has the columns of quantities; a sample is {cycle, isGap, numbers by column}; `epoch` counts how often time went back.
+// `chosen` has the columns of quantities; a sample is {cycle, isGap, numbers by column}; an alarm is {since, cycle, isSought}: the PROG lamp
+// was dark at one cycle and lit at the other. `epoch` counts how often time went back.
 const plot = { ...noCurves(), epoch: 0, turn: Promise.resolve(), timer: null, isStale: false, isBusy: false, dragged: null, going: 0, isDrawing: false };
 
 // samples
 
 // Begins anew with the columns of a session.
 function beginPlot() {
-  Object.assign(plot, noCurves(), { chosen: quantities.rows.slice(0, MOST_CURVES), epoch: plot.epoch + 1, cycle: now.cycle, undo: now.undo });
+  Object.assign(plot, noCurves(), { chosen: quantities.rows.slice(0, MOST_CURVES), epoch: plot.epoch + 1, isLit: isProgLit(), cycle: now.cycle, undo: now.undo });
   buildChoice();
   samplePlot();
 }
@@ -108,9 +100,14 @@ function followPlot(time) {
   if (!plot.chosen.length) return;
   const before = { cycle: plot.cycle, undo: plot.undo, wasPlaying: plot.wasPlaying };
   Object.assign(plot, { cycle: time.cycle, undo: time.undo, wasPlaying: time.playing });
+  const wasLit = plot.isLit;
+  plot.isLit = isProgLit();
   if (time.cycle < before.cycle) cutFuture(time, before);
   else if (time.undo !== before.undo) restoreFuture(time);
-  else if (!time.playing && !before.wasPlaying && time.cycle - before.cycle > JUMP && !plot.isBusy) plot.isGap = true;
+  else {
+    if (!time.playing && !before.wasPlaying && time.cycle - before.cycle > JUMP && !plot.isBusy) plot.isGap = true;
+    if (plot.isLit && !wasLit) plot.alarms.push({ since: before.cycle, cycle: time.cycle, isSought: false });
+  }
   if (time.cycle !== before.cycle) sampleSoon();
   if (!time.playing) drawSoon(); // else with each sample
 }
@@ -131,7 +128,15 @@ function cutFuture(time, before) {
   plot.epoch += 1;
   const { isGap } = plot;
   const samples = cutFrom(time.cycle + 1);
-  if (time.undo !== before.undo) plot.cuts = [...plot.cuts.slice(1 - MOST_CUTS), { end: time.undo, before: before.undo, samples, isGap }];
+  const alarms = cutAlarms(time.cycle);
+  if (time.undo !== before.undo) plot.cuts = [...plot.cuts.slice(1 - MOST_CUTS), { end: time.undo, before: before.undo, at: time.cycle, samples, alarms, isGap }];
+}
+
+// Takes the alarms after a cycle away, and returns them.
+function cutAlarms(cycle) {
+  const cut = plot.alarms.filter((alarm) => alarm.cycle > cycle);
+  plot.alarms = plot.alarms.filter((alarm) => alarm.cycle <= cycle);
+  return cut;
 }
 
 // Going back was undone: time is where it was before, and so are the curves.
@@ -142,7 +147,32 @@ function restoreFuture(time) {
   plot.cuts.length = plot.cuts.indexOf(cut);
   if (cut.samples.length) cutFrom(cut.samples[0].cycle);
   plot.samples.push(...cut.samples);
+  cutAlarms(cut.at);
+  plot.alarms.push(...cut.alarms);
   plot.isGap = cut.isGap;
+}
+
+// alarms
+
+const isProgLit = () => (shown.panel?.LAMPS ?? '').split(', ').includes('PROG');
+
+// Finds the cycles of the alarms, by a second console once time stands: two looks at the panel may be far apart.
+async function seekAlarms() {
+  for (const alarm of plot.alarms.filter(({ isSought }) => !isSought)) {
+    alarm.isSought = true;
+    const { line } = await session.light({ lamp: 'PROG', since: alarm.since, end: now.cycle }).catch(() => ({}));
+    if (line) alarm.cycle = boundary(line).cycle;
+    drawSoon();
+  }
+}
+
+// Draws a line for each alarm, and says when it was.
+function drawAlarms(pen, height, view) {
+  pen.fillStyle = ALARM_COLOUR;
+  for (const { cycle } of plot.alarms) if (cycle >= view.from && cycle <= view.to) pen.fillRect(xOf(cycle, view) - 0.75, 0, 1.5, height - BOTTOM);
+  const times = plot.alarms.map(({ cycle }) => `${(cycle / CYCLES_A_SECOND).toFixed(3)} s`).join(', ');
+  setText(find('plot-alarms'), times && `Pink: the PROG lamp goes on at ${times}.`);
+  if (!now.playing) seekAlarms();
 }
 
 // Goes to a cycle. The way ahead is gone in legs, so that the curves have it, until somebody has time go back or run.
@@ -293,27 +323,12 @@ function drawPlot() {
     setText(label.lastChild, valueAt(sample, column));
     drawCurve(pen, column, colourOf(i), { top: i * each + HEAD, bottom: (i + 1) * each - 4, view, seen });
   });
+  drawAlarms(pen, height, view);
   const x = xOf(cursorNow(), view);
   pen.fillStyle = '#fff';
   pen.fillRect(x - 0.75, 0, 1.5, height - BOTTOM);
   sayCursor(sample);
 }
-
-// Returns a step of 1, 2 or 5 times a power of ten that divides a span into that many parts at most.
-function stepOf(span, parts) {
-  const power = 10 ** Math.floor(Math.log10(span / parts));
-  return [1, 2, 5, 10].map((each) => each * power).find((step) => span / step <= parts);
-}
-
-// Returns the multiples of a step within bounds.
-function multiples(least, greatest, step) {
-  const first = Math.ceil(least / step - 1e-9);
-  const count = Math.max(0, Math.floor(greatest / step + 1e-9) - first + 1);
-  return Array.from({ length: Math.min(count, 50) }, (_, i) => (first + i) * step);
-}
-
-// Writes a number of an axis: as many digits as its step needs.
-const axisText = (value, step) => (Math.abs(value) >= 1e7 || (value && step < 1e-5) ? value.toExponential(1) : value.toFixed(Math.max(0, -Math.floor(Math.log10(step) + 1e-9))));
 
 function drawTimes(pen, height, view) {
   const [start, end] = [view.from / CYCLES_A_SECOND, view.to / CYCLES_A_SECOND];
@@ -339,18 +354,7 @@ function samplesSeen({ from, to }) {
 function drawCurve(pen, column, colour, { top, bottom, view, seen }) {
   const worth = Number(column.p) / Number(column.b);
   const points = seen.filter(({ numbers }) => column.name in numbers).map(({ cycle, isGap, numbers }) => ({ cycle, isGap, amount: numbers[column.name] * worth }));
-  const bounds = boundsOf(points);
-  const step = stepOf(bounds[1] - bounds[0], AXIS_PARTS);
-  const [least, greatest] = [Math.floor(bounds[0] / step) * step, Math.ceil(bounds[1] / step) * step];
-  const yOf = (amount) => bottom - ((amount - least) / (greatest - least)) * (bottom - top);
-  const all = multiples(least, greatest, step);
-  pen.textAlign = 'right';
-  for (const amount of (bottom - top) / all.length < LABEL_HEIGHT ? [least, greatest] : all) {
-    pen.fillStyle = GRID_COLOUR;
-    pen.fillRect(LEFT, yOf(amount), plotWidth(), 1);
-    pen.fillStyle = TEXT_COLOUR;
-    pen.fillText(axisText(amount, step), LEFT - 5, yOf(amount) + 4);
-  }
+  const yOf = drawAxis(pen, boundsOf(points.map(({ amount }) => amount)), { top, bottom, width: plotWidth() });
   pen.save();
   pen.beginPath();
   pen.rect(LEFT - 1, top - 2, plotWidth() + 2, bottom - top + 4);
@@ -370,15 +374,6 @@ function drawLine(pen, points, colour) {
     pen.lineTo(x, y);
   });
   pen.stroke();
-}
-
-// Returns the bounds of a curve, which are apart.
-function boundsOf(points) {
-  const least = points.reduce((one, { amount }) => Math.min(one, amount), Infinity);
-  const greatest = points.reduce((one, { amount }) => Math.max(one, amount), -Infinity);
-  if (least < greatest) return [least, greatest];
-  const middle = points.length ? least : 0;
-  return [middle - Math.max(1, Math.abs(middle) / 10), middle + Math.max(1, Math.abs(middle) / 10)];
 }
 
 // Says where the cursor is, also to a screen reader: of values only if time stands.

@@ -158,6 +158,14 @@ async function panelChange(kind, name) {
   return ahead.lines.find(isWrite) ?? null;
 }
 
+// Returns the line of the order that first lit a lamp from a cycle of the past on up to another one.
+async function lightOf({ lamp, since, end }) {
+  const lines = [`break panel LAMPS ${lamp}`, `continue within ${Math.max(1, end - since)}`, 'back step', `ahead ${MOST_BOUNDARIES}`];
+  const { cycle, answers: [, run, , ahead] } = await search(lines, { before: since });
+  const isLit = isHit(run) && run.lines.some((line) => line !== 'hit none');
+  return { cycle, line: isLit ? ahead.lines.find(isWrite) ?? null : null };
+}
+
 // Returns the cycle behind the last hit of breakpoints in a time, or behind the last one that put a lamp out; null if there is none.
 async function lastChange(breaks, dark, begin, end) {
   let last = null;
@@ -219,4 +227,7 @@ Object.assign(session, {
   // Searches for what changed one of `places` last: "cell PLACE", "panel FIELD", "lamp NAME" or "write CCC" for a channel. Returns
   // the status, the `cycle` at which the machine stands, and `line`, the boundary as a trace has it, null if nothing has; or an `error`.
   cause: answered(cause),
+
+  // Searches for what first lit a `lamp` from the cycle `since` on, at most up to `end`. Returns the same.
+  light: answered(lightOf),
 });

@@ -43,6 +43,10 @@ const session = {
     return response.text();
   },
 
+  // Has a timeline of the session so far made, which `timelineAddress` then gives. Returns the status and the `cycle` of its end, or
+  // an `error`.
+  makeTimeline: () => post('timeline', {}),
+
   // What the page says if the session does not answer.
   lost: 'agc-web cannot be reached. If it has ended, its script was saved or printed in the terminal.',
 

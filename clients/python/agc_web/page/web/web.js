@@ -33,8 +33,10 @@ function showAbout(given) {
   setText(find('phones-address'), about.phones || '');
   setText(find('script-rope'), session.ropeOfScript?.() ?? 'ROPE');
   keepNames(about);
+  keepOperands(given.names);
   keepListing(about);
   keepQuantities(about);
+  keepTimeline(about);
   keepNouns(about);
   loadGuides(about.guide);
   showTabs(about);
@@ -43,7 +45,7 @@ function showAbout(given) {
 
 // Makes the tabs, those of instruments first. Instruments may come after what the session is about.
 function showTabs(about) {
-  const isOffered = { tables: () => about.watch, plot: () => about.quantities, why: () => known(ALARMS).length, source: listing.isOffered };
+  const isOffered = { tables: () => about.watch, plot: () => about.quantities, timeline: () => session.timelineAddress, why: () => known(ALARMS).length, source: listing.isOffered };
   const all = Object.keys(TABS).filter((tab) => find(`${tab}-panel`) && (!isOffered[tab] || isOffered[tab]()));
   const names = [...all.filter((tab) => tab.startsWith('instrument')), ...all.filter((tab) => !tab.startsWith('instrument'))];
   const shownNow = [...find('tabs').children].map((tab) => tab.id.replace(/-tab$/, ''));
@@ -103,6 +105,7 @@ const SHOWS = {
   history: showHistory,
   ahead: showAhead,
   breakpoints: showBreaks,
+  ignored: showIgnored,
   time: showTime,
 };
 
@@ -203,6 +206,7 @@ function start() {
   buildWhy();
   buildListing();
   buildPlot();
+  buildTimeline();
   find('play').addEventListener('click', playOrPause);
   find('step').addEventListener('click', step);
   find('undo').addEventListener('click', undo);

@@ -29,6 +29,7 @@ const COMMANDS = {
   undo: (machine, body) => machine.undo(body.sure === true),
   break: (machine, body) => machine.addBreakpoint(item(body, 'place', 'string')),
   unbreak: (machine, body) => machine.removeBreakpoint(item(body, 'place', 'string')),
+  ignore: (machine, body) => machine.ignoreHits(item(body, 'place', 'string'), item(body, 'hits', 'number')),
   control: (machine, body) => machine.control(
     item(body, 'instrument', 'number'), item(body, 'name', 'string'), item(body, 'down', 'boolean'),
   ),

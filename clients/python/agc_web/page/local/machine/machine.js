@@ -2,7 +2,7 @@
 //
 // It is the session that agc-web has in Python (agc_web/session.py), with the same commands. Its tasks run one after another,
 // between pieces of the clock's work.
-import { Breakpoints, MOST_BREAKPOINTS } from './breakpoints.js';
+import { Breakpoints, MOST_BREAKPOINTS, MOST_IGNORED } from './breakpoints.js';
 import { Clock, SPEEDS, seconds } from './clock.js';
 import { EVENTS } from './console.js';
 import { Ended, Fault, Refused, Sure, Unable } from './faults.js';
@@ -112,6 +112,7 @@ export class Machine {
   undo = (sure) => this.call(() => this.#takeBack(sure));
   addBreakpoint = (text) => this.call(() => this.#addBreakpoint(text));
   removeBreakpoint = (text) => this.call(() => this.#removeBreakpoint(text));
+  ignoreHits = (text, count) => this.call(() => this.#ignoreHits(text, count));
   control = (instrument, name, down) => this.call(() => this.#control(instrument, name, down));
   look = () => this.call(() => this.#look());
   pastViews = () => this.call(() => (this.#ticker.isEmpty ? [] : this.#ticker.pastViews(this.#console.cycle)));
@@ -544,6 +545,13 @@ export class Machine {
     this.#publishTime();
   }
 
+  #ignoreHits(text, count) {
+    if (!this.#breakpoints.texts.includes(text)) throw new RangeError(`no breakpoint: '${text.slice(0, 80)}'`);
+    if (!Number.isInteger(count) || count < 0 || count > MOST_IGNORED) throw new RangeError('hits to ignore are 0 to 1,000,000');
+    this.#breakpoints.ignore(text, count);
+    this.#publishTime();
+  }
+
   // what the page is shown
 
   // Says lines that change nothing to the console. Returns the cycle, and the `answers` as `answersTo` does.
@@ -593,6 +601,7 @@ export class Machine {
   // Publishes where time stands.
   #publishTime() {
     this.#news('breakpoints', this.#breakpoints.texts);
+    this.#news('ignored', this.#breakpoints.ignored);
     this.#news('time', {
       cycle: this.#console.cycle, furthest: Math.max(this.furthest, this.#console.cycle), playing: this.playing,
       speed: this.#clock.speed, pace: Math.round(100 * this.#clock.pace) / 100, stop: this.#console.stop, ended: this.ended,
