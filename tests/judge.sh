@@ -68,6 +68,21 @@ needs_program() {
     "$path" --help >/dev/null || exit 1
 }
 
+# skip_launcher VARIABLE NAME: has the variable of a program name what the launcher starts, for a judge that starts it thousands of times:
+# the launcher takes most of a start's processor time. tests/launcher tries the launchers.
+skip_launcher() {
+    local -n path=$1
+    [ "$path" != "$top/$2" ] || path=$(program_of "$2") || exit
+}
+
+# program_of NAME: prints the path of the program that a launcher starts; proves and builds it first if none fits the sources
+program_of() (
+    name=$1
+    # shellcheck source=launch/fit.sh
+    . "$top/launch/fit.sh"
+    ready && echo "$program"
+)
+
 # make_scratch: makes a folder for files, which is removed when the judge ends
 make_scratch() {
     scratch=$(mktemp -d) || exit
@@ -117,5 +132,8 @@ finish() {
     exit
 }
 
-# run_python FILE WORD ..: runs a judge's file. It finds judge.py, and the modules in the folders of `modules`.
-run_python() { PYTHONPATH=$here${modules:+:$modules} PYTHONDONTWRITEBYTECODE=1 python3 "$@"; }
+# run_python FILE WORD ..: runs a judge's file. It finds judge.py, and the modules in the folders of `modules`. What it and the programs that
+# it starts compile is kept in the folder `bytecode`, if a judge that starts many has one.
+run_python() {
+    PYTHONPATH=$here${modules:+:$modules} PYTHONPYCACHEPREFIX=${bytecode:-} PYTHONDONTWRITEBYTECODE=$([ -n "${bytecode:-}" ] || echo 1) python3 "$@"
+}

@@ -95,13 +95,14 @@ def copy_of(folder):
 
 
 def printed_by(folder, commands):
-    """The lines that each command of a block prints, or None for one that was not reached in time."""
+    """The lines that each command of a block prints, or None for one that was not reached in time; and where the shell is at the end."""
     with tempfile.TemporaryDirectory() as scratch:
         script = []
         for index, (_, text, _) in enumerate(commands):
             Path(scratch, f"{index}.command").write_text(text, encoding="utf-8")
             script.append(f'eval "$(<{scratch}/{index}.command)" >{scratch}/{index}.out 2>&1 </dev/null')
             script.append(f"touch {scratch}/{index}.done")
+        script.append(f"pwd -P >{scratch}/end")
         shell = subprocess.Popen(["bash", "-c", "\n".join(script)], cwd=folder, start_new_session=True)
         try:
             shell.wait(SECONDS)
@@ -111,8 +112,9 @@ def printed_by(folder, commands):
             if shell.poll() is None:
                 os.killpg(shell.pid, signal.SIGKILL)
                 shell.wait()
+        end = Path(scratch, "end")
         return [trimmed(Path(scratch, f"{index}.out").read_text(encoding="utf-8", errors="replace").splitlines())
-                if Path(scratch, f"{index}.done").exists() else None for index in range(len(commands))]
+                if Path(scratch, f"{index}.done").exists() else None for index in range(len(commands))], end.read_text().strip() if end.exists() else ""
 
 
 def answer_of(command, wanted, printed):
@@ -138,8 +140,11 @@ def try_page(page):
             if not commands:
                 (folder / named[1]).write_text("\n".join(block) + "\n", encoding="utf-8")
                 continue
-            for (number, text_of, wanted), printed in zip(commands, printed_by(folder, commands)):
+            lines, end = printed_by(folder, commands)
+            for (number, text_of, wanted), printed in zip(commands, lines):
                 judge.check(*answer_of(f"{page.relative_to(TOP)}:{number}: {text_of}", wanted, printed))
+            # Who types the next block is still in this folder.
+            judge.judge(f"{page.relative_to(TOP)}:{first}: the folder after the block", str(folder.resolve()), end)
 
 
 def main():

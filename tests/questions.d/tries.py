@@ -4,6 +4,7 @@ What a boundary changes of a cell is judged by what `agc-console` says of the ce
 have sixteen bits in a trace, by the registers of the plain trace.
 """
 
+import functools
 import itertools
 import subprocess
 from pathlib import Path
@@ -16,7 +17,7 @@ ONLY = [None, "writes", "interrupts", "jumps"]
 AT = [[], ["4000"], ["02,4060-4074"], ["4000-4003", "4060", "4024"]]
 ORDERS = [[], ["TCF"], ["READ", "WRITE", "RESUME"], ["AD", "INDEX"]]
 CHANNELS = [[], ["10"], ["15", "010"]]
-CELLS = [["0000"], ["0100-0101", "0027"], ["0001-0005", "0002"], ["0012-0377"]]
+CELLS = [("0000",), ("0100-0101", "0027"), ("0001-0005", "0002"), ("0012-0377",)]
 LAST = [None, 2, 1000]
 TOUCHING = {"READ", "WRITE", "RAND", "WAND", "ROR", "WOR", "RXOR"}
 
@@ -38,6 +39,7 @@ def trace(run, words):
     return subprocess.run(command, capture_output=True, check=True).stdout.decode().splitlines()
 
 
+@functools.cache
 def fixed(place):
     """The place of an address from 2000 octal on, as a bank and an offset."""
     bank, _, address = place.rpartition(",")
@@ -45,6 +47,7 @@ def fixed(place):
     return (number // 0o2000, number % 0o2000) if number >= 0o4000 else (int(bank, 8), number % 0o2000)
 
 
+@functools.cache
 def stands(place, asked):
     """A line's place is one of those that are asked for."""
     if place.startswith("E") or (len(place) == 4 and int(place, 8) < 0o2000):
@@ -53,9 +56,15 @@ def stands(place, asked):
     return fixed(first) <= fixed(place) <= fixed(last or first)
 
 
+@functools.cache
+def parts(line):
+    """The cycle, the place, the words, the order and the operand of a line, as far as it has them."""
+    return line.split(" | ")[0].split(" ")
+
+
 def keeps(line, at, orders, channels):
     """A line answers these questions, or is the stop's."""
-    told = line.split(" | ")[0].split(" ")
+    told = parts(line)
     if told[1] == "-":
         return told[2] == "stop" or not (at or orders or channels)
     place, name, operand = told[1], told[3], told[4] if len(told) > 4 else ""
@@ -87,6 +96,7 @@ def words_told(run, plain):
     return told
 
 
+@functools.cache
 def asked_cells(cells):
     """The numbers of the cells that are asked for, each once and in their order."""
     stretches = [(int(first, 8), int(last or first, 8)) for first, _, last in (text.partition("-") for text in cells)]
