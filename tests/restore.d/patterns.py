@@ -303,9 +303,20 @@ def one_wrong_bit(draw):
         words = draw_rope(draw, {bank, *draw.sample(range(1, 36), n % 4)})
         at = next(at for at in range(bank * BANK, (bank + 1) * BANK) if words[at] and not words[at] >> 1 + bit & 1)
         words[at] ^= 2 << bit
+        fitting = [word ^ 1 if place == at else word for place, word in enumerate(words)]
+        if is_right_by_chance(words, bank) or is_right_by_chance(fitting, bank):
+            continue
         judge_none(f"one wrong bit {n}", words)
-        words[at] ^= 1
-        judge_none(f"one wrong bit {n}, with the parity that fits it", words)
+        judge_none(f"one wrong bit {n}, with the parity that fits it", fitting)
+
+
+def is_right_by_chance(words, bank):
+    """Returns whether the sum of a bank would be right with the bits or bytes of its words in another order: one in 4,000 is."""
+    for kind in ("reversed", "bytes exchanged"):
+        changed = [CHANGES[kind](word) for word in words[bank * BANK:(bank + 1) * BANK]]
+        if total(word >> 1 for word in changed) in (bank, 0o77777 - bank):
+            return True
+    return False
 
 
 def alone_in_a_file(draw):
