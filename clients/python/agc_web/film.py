@@ -53,11 +53,11 @@ class Films:
         return self._page(repeat, "jobs", "--watch", self.watch, "--timeline", TIMELINE, *names)
 
     def keep_timeline(self, repeat: Repeat) -> None:
-        """Makes the page of a timeline, and keeps it. Raises `Unable` if there is none."""
+        """Makes the page of a timeline, and keeps it. Raises `Unable` if it cannot be made."""
         self._kept = self.timeline(repeat)
 
     def kept_timeline(self) -> bytes:
-        """Returns the page of the timeline that was made last. Raises `Unable` if there is none."""
+        """Returns the page of the timeline that was made last. Raises `Unable` before the first one."""
         if self._kept is None:
             raise Unable("no timeline was made yet")
         return self._kept
