@@ -12,11 +12,11 @@ use agc_include::{Expanded, has_include, name_of_path};
 use agc_io::{OK, ReadError, TEXT_BYTES, WRITE_FAILED, read_limited, status_of, write_in_full};
 use agc_listing_check::{Misnamed, first_misnamed, line_remarks};
 use agc_rope_commands::{
-    Woven, expanded_source, in_files, misnamed_line, report_include, weave_text,
-    write_expanded_faults, write_other_faults,
+    Woven, in_files, misnamed_line, weave_text, write_expanded_faults, write_other_faults,
 };
 use agc_run_commands::{
-    AnalysisFault, FAULTY, Streams, check_new_paths, check_paths_beside, is_written,
+    AnalysisFault, FAULTY, Streams, check_new_paths, check_paths_beside, expanded_source,
+    is_written, report_include,
 };
 use agc_store::RopeForm;
 use agc_study_args::{NAME, WeaveArgs, open_file, remark_on_file};

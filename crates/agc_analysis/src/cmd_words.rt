@@ -6,10 +6,8 @@ use agc_asm::{AssemblyFault, assemble, word_lines};
 use agc_include::{ExpandError, Expanded, has_include};
 use agc_io::{OK, ROPE_BYTES, ReadError, TEXT_BYTES, read_limited, status_of, write_in_full};
 use agc_load::LoadFault;
-use agc_rope_commands::{
-    expanded_source, push_line, report_include, weave_text, write_expanded_faults,
-};
-use agc_run_commands::{AnalysisFault, FAULTY, Streams};
+use agc_rope_commands::{push_line, weave_text, write_expanded_faults};
+use agc_run_commands::{AnalysisFault, FAULTY, Streams, expanded_source, report_include};
 use agc_store::{Rope, RopeForm, Store};
 use agc_study_args::{
     LinedRope, RopeRead, WordsArgs, open_file, read_any_rope, text_of_words_apart,

@@ -11,6 +11,6 @@ mod source_remark;
 
 pub use erase_remark::erase_remarks;
 pub use line_remark::line_remarks;
-pub use listing_report::check_listing;
+pub use listing_report::{check_listing, is_same_fault};
 pub use mnemonic_check::{Misnamed, Written, first_misnamed};
 pub use source_remark::nearest_order;

@@ -5,7 +5,9 @@ ghost use Rattle.agc_listing_check.specs.ListingReport.{IsListingReport, listing
 
 use crate::listing_doubt::doubts;
 use crate::source_remark::{push_letter_below, push_source_why};
-use agc_asm::{AssemblyFault, assemble, counted_faults, overlapped_line, word_at_fault};
+use agc_asm::{
+    AssemblyFault, FaultyLine, assemble, counted_faults, overlapped_line, word_at_fault,
+};
 use agc_listing::{LineFault, Report, push_file_line, push_quoted, push_quoted_then, words_of};
 use agc_store::RopeForm;
 use agc_vocabulary::{SourceFault, code_of};
@@ -89,16 +91,17 @@ fn remarks(
     fault: SourceFault,
 ) -> Result<String, AllocError> {
     let found = counted_faults(alloc, file)?;
+    let first = FaultyLine::new(number, line_at(file, number), fault);
     let mut text = remark(alloc, file, number, fault)?;
     for counted in found.iter() {
-        if counted.first.line == number {
+        if is_same_fault(counted.first, first) {
             push_uses(&mut text, counted.lines)?;
         }
     }
     let mut room = MOST_LINES.saturating_sub(1);
     for counted in found.iter() {
         let faulty = counted.first;
-        if faulty.line == number || room == 0 {
+        if is_same_fault(faulty, first) || room == 0 {
             continue;
         }
         room = room.saturating_sub(1);
@@ -108,6 +111,14 @@ fn remarks(
         push_uses(&mut text, counted.lines)?;
     }
     Ok(text)
+}
+
+/// Returns whether two faults are one: of one line, or of an unknown name, which each pass may find first in another line.
+pub fn is_same_fault(one: FaultyLine<'_>, other: FaultyLine<'_>) -> bool {
+    one.line == other.line
+        || one.fault == SourceFault::UnknownName
+            && other.fault == SourceFault::UnknownName
+            && one.word == other.word
 }
 
 /// Appends how many lines use an unknown name, if there are several.

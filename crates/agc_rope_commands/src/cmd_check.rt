@@ -10,7 +10,7 @@ use crate::checks::{
     CheckedListing, check_key_file, check_listing_file, check_rope_file, check_source, check_with,
     joined, report_on_rope,
 };
-use crate::included::{expanded_source, in_files, report_include};
+use crate::included::in_files;
 use crate::rope_pages::{check_page_path, write_rope_page};
 use agc_include::{Expanded, has_include};
 use agc_io::{
@@ -18,7 +18,7 @@ use agc_io::{
 };
 use agc_listing::Report;
 use agc_load::LoadFault;
-use agc_run_commands::{AnalysisFault, Streams, report_fault};
+use agc_run_commands::{AnalysisFault, Streams, expanded_source, report_fault, report_include};
 use agc_store::RopeForm;
 use agc_study_args::{CheckArgs, RunInputs, open_file, open_run};
 use std::alloc::{AllocError, Global};

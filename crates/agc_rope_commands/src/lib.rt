@@ -21,7 +21,7 @@ pub use checks::{
 pub use cmd_check::{run_check, write_report};
 pub use cmd_merge::run_merge;
 pub use cmd_restore::{run_convert, run_patch, run_repair, run_sums};
-pub use included::{expanded_source, in_files, report_include};
+pub use included::in_files;
 pub use rope_bytes::{read_banks, special_list};
 pub use ropes::{Woven, misnamed_line, text_of_rope, weave_text};
 pub use source_faults::{push_line, write_expanded_faults, write_other_faults};

@@ -2,6 +2,7 @@
 use agc_asm::{AssemblyFault, CountedFault, FaultyLine, SourceFault, assemble, counted_faults};
 use agc_include::Expanded;
 use agc_listing::{LineFault, push_file_bytes};
+use agc_listing_check::is_same_fault;
 use agc_store::RopeForm;
 use agc_word::without_return;
 use std::alloc::{AllocError, Global};
@@ -97,8 +98,13 @@ fn expanded_faults(
     Ok(text)
 }
 
+/// Returns whether a line has a word for a place of an earlier line. If memory runs out, that line is not known.
 fn is_overlap(fault: AssemblyFault) -> bool {
-    matches!(fault, AssemblyFault::Overlap(_, _))
+    match fault {
+        AssemblyFault::Overlap(_, _) => true,
+        AssemblyFault::Line(_, why) => why == SourceFault::Listed(LineFault::NamedTwice),
+        AssemblyFault::Memory => false,
+    }
 }
 
 /// Returns the first fault of a source with its column and word, and the number of lines that have it.
@@ -119,7 +125,7 @@ fn first_fault<'a>(
         lines: 1,
     };
     for counted in found.iter() {
-        if is_same_fault(*counted, first) {
+        if is_same_fault(counted.first, first.first) {
             first.lines = counted.lines;
         }
     }
@@ -132,15 +138,6 @@ fn line_at(source: &[u8], number: usize) -> &[u8] {
         Some(line) => without_return(line),
         None => source,
     }
-}
-
-/// Returns whether two faults are one: of one line, or of an unknown name.
-fn is_same_fault(one: CountedFault<'_>, other: CountedFault<'_>) -> bool {
-    let (one, other) = (one.first, other.first);
-    one.line == other.line
-        || one.fault == SourceFault::UnknownName
-            && other.fault == SourceFault::UnknownName
-            && one.word == other.word
 }
 
 /// Appends the fault of a line that has a word for a place of an earlier line.
@@ -168,7 +165,7 @@ fn push_others(
     let mut count: usize = 1;
     let mut lines = first.lines;
     for fault in found.iter() {
-        if is_same_fault(*fault, first) {
+        if is_same_fault(fault.first, first.first) {
             continue;
         }
         count = count.saturating_add(1);

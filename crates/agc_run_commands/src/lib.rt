@@ -16,6 +16,7 @@ mod films;
 mod inputs;
 mod new_files;
 mod remarks;
+mod sources;
 mod streams;
 mod timelines;
 mod traces;
@@ -35,6 +36,7 @@ pub use films::{FilmPage, film_file_pairs, film_files, record_run};
 pub use inputs::{read_symbols, report_fault};
 pub use new_files::{check_new_file, check_new_paths, check_paths_beside, is_written};
 pub use remarks::{RunStop, remark_on_start, stop_of};
+pub use sources::{expanded_source, report_include};
 pub use streams::Streams;
 pub use traces::{
     TraceError, Traced, remark_service, status_of_trace_error, trace_files, write_text,

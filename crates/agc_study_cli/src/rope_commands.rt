@@ -18,7 +18,7 @@ static LIST: Subcommand = Subcommand {
             ..VALUE
         },
         Parameter {
-            help: "Show names of places from this file: a line for each, PLACE NAME",
+            help: "Show names of places from this file: a line for each, PLACE NAME, or a source NAME.agc",
             ..NAMES
         },
         Parameter {

@@ -62,7 +62,7 @@ static TRACE: Subcommand = Subcommand {
             ..NUMBER
         },
         Parameter {
-            help: "Show names from this file (a line for each, PLACE NAME), and accept them as places",
+            help: "Show names from this file (a line for each, PLACE NAME, or a source NAME.agc), and accept them as places",
             ..NAMES
         },
         SOURCE_LINES,
@@ -120,7 +120,7 @@ static PROFILE: Subcommand = Subcommand {
             ..FLAG
         },
         Parameter {
-            help: "Show names from this file (a line each, PLACE NAME), and sum by routine",
+            help: "Show names from this file (a line each, PLACE NAME, or a source NAME.agc), and sum by routine",
             ..NAMES
         },
         Parameter {
@@ -149,7 +149,7 @@ static JOBS: Subcommand = Subcommand {
         FROM_PRINTED,
         TO_PRINTED,
         Parameter {
-            help: "Show names of jobs and tasks from this file: a line for each, PLACE NAME",
+            help: "Show names of jobs and tasks from this file: a line for each, PLACE NAME, or a source NAME.agc",
             ..NAMES
         },
         Parameter {
@@ -211,7 +211,7 @@ static SAMPLE: Subcommand = Subcommand {
         FROM_PRINTED,
         TO_PRINTED,
         Parameter {
-            help: "Accept names from this file (a line for each, PLACE NAME) as places",
+            help: "Accept names from this file (a line for each, PLACE NAME, or a source NAME.agc) as places",
             ..NAMES
         },
         Parameter {
@@ -349,7 +349,7 @@ static COMPARE: Subcommand = Subcommand {
             ..FLAG
         },
         Parameter {
-            help: "Show names from this file: a line for each, PLACE NAME; repeat it for the second run",
+            help: "Show names from this file (a line for each, PLACE NAME, or a source NAME.agc); repeat it for the second run",
             is_repeated: true,
             excludes: &["by"],
             ..NAMES
@@ -399,7 +399,7 @@ static FILM: Subcommand = Subcommand {
             ..VALUE
         },
         Parameter {
-            help: "Accept names from this file in --until: a line for each, PLACE NAME",
+            help: "Accept names from this file in --until: a line for each, PLACE NAME, or a source NAME.agc",
             ..NAMES
         },
         Parameter {

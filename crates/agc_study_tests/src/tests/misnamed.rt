@@ -1,6 +1,7 @@
-//! Tests a listing line whose mnemonic does not match its word. `tests/study` compares the remarks.
+//! Tests a listing line whose mnemonic does not match its word, and which faults are one. `tests/study` compares the remarks.
 use super::same;
-use agc_listing_check::{Written, first_misnamed};
+use agc_asm::{FaultyLine, SourceFault};
+use agc_listing_check::{Written, first_misnamed, is_same_fault};
 use agc_order::Basic;
 
 /// The remark on a line, and that INDEX alone is read as the basic order.
@@ -15,4 +16,15 @@ fn a_line_is_found(rt: HostRuntime) {
     same(&rt, written, Written::Basic(Basic::Index), "written");
     same(&rt, written.is_extracode(), false, "extracode");
     same(&rt, written.mnemonic(), "INDEX", "mnemonic");
+}
+
+/// An unknown name is one fault, in whichever line. Other faults are one if they are in one line.
+#[test]
+fn faults_are_one(rt: HostRuntime) {
+    let here = FaultyLine::new(1, b" CA FOO", SourceFault::UnknownName);
+    let there = FaultyLine::new(2, b"HERE EQUALS FOO", SourceFault::UnknownName);
+    let other = FaultyLine::new(2, b" CA BAR", SourceFault::UnknownName);
+    same(&rt, is_same_fault(here, there), true, "one name");
+    same(&rt, is_same_fault(here, other), false, "two names");
+    same(&rt, is_same_fault(there, other), true, "one line");
 }
