@@ -21,4 +21,4 @@ pub use key_report::check_keys;
 pub use reports::{check, check_rope};
 pub use scores::{Score, score_readings};
 pub use sum_lines::push_sum_line;
-pub use walk::{Reach, follow_orders};
+pub use walk::{Reach, follow_orders, reached_places};

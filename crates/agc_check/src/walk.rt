@@ -38,47 +38,66 @@ struct Step {
     extracode: bool,
 }
 
-/// The places that are reached so far.
+/// The places that are reached so far, and the counts of `Reach`.
 #[derive(Drop)]
 struct Walk {
     /// For each place, whether it is reached as a basic order, and then for each place as an extracode.
     seen: Vec<bool>,
     /// Places that are reached and not followed yet.
     open: Vec<Step>,
+    reached: usize,
+    legal: usize,
+    starts: usize,
 }
 
 /// Follows the orders of the rope in a store. Fails if out of memory.
 pub fn follow_orders(alloc: Global, store: &Store) -> Result<Reach, AllocError> {
-    let mut walk = Walk {
+    let mut walk = new_walk(alloc)?;
+    follow_all(&mut walk, store)?;
+    Ok(counted(&walk, store))
+}
+
+/// Returns for each place of the rope in a store whether `follow_orders` reaches it. Fails if out of memory.
+pub fn reached_places(alloc: Global, store: &Store) -> Result<Vec<bool>, AllocError> {
+    let mut walk = new_walk(alloc)?;
+    follow_all(&mut walk, store)?;
+    let mut reached = Vec::new(alloc);
+    for place in 0..FIXED_WORDS as usize {
+        reached.push(is_reached(&walk, place))?;
+    }
+    Ok(reached)
+}
+
+fn new_walk(alloc: Global) -> Result<Walk, AllocError> {
+    Ok(Walk {
         seen: vec![in alloc; false; 2 * FIXED_WORDS as usize]?,
         open: Vec::new(alloc),
-    };
-    let mut reach = Reach {
-        words: 0,
         reached: 0,
         legal: 0,
         starts: 0,
-        unreached: 0,
-    };
+    })
+}
+
+/// Follows orders from each start, until no reached place is left.
+fn follow_all(walk: &mut Walk, store: &Store) -> Result<(), AllocError> {
     for start in 0..STARTS {
         let place = FIXED_FIXED as usize + 4 * start;
         if is_order(store, place, false) {
-            reach.starts = reach.starts.saturating_add(1);
-            visit(&mut walk, place, false)?;
+            walk.starts = walk.starts.saturating_add(1);
+            visit(walk, place, false)?;
         }
     }
     for _ in 0..2 * FIXED_WORDS {
         let Some(step) = walk.open.pop() else {
             break;
         };
-        reach.reached = reach.reached.saturating_add(1);
+        walk.reached = walk.reached.saturating_add(1);
         if is_order(store, step.place, step.extracode) {
-            reach.legal = reach.legal.saturating_add(1);
-            follow(&mut walk, store, step)?;
+            walk.legal = walk.legal.saturating_add(1);
+            follow(walk, store, step)?;
         }
     }
-    count_words(&mut reach, &walk, store);
-    Ok(reach)
+    Ok(())
 }
 
 /// Returns whether a place has a word that is not +0, and it is legal there.
@@ -199,17 +218,29 @@ fn visit_target(walk: &mut Walk, place: usize, word: Narrow) -> Result<(), Alloc
     }
 }
 
-/// Counts the words that are not +0, and those that are not reached.
-fn count_words(reach: &mut Reach, walk: &Walk, store: &Store) {
-    let size = FIXED_WORDS as usize;
-    for place in 0..size {
+/// Returns the counts of a walk, with the words that are not +0, and those that are not reached.
+fn counted(walk: &Walk, store: &Store) -> Reach {
+    let (mut words, mut unreached) = (0usize, 0usize);
+    for place in 0..FIXED_WORDS as usize {
         if store.fixed_at(place).bits() != 0 {
-            reach.words = reach.words.saturating_add(1);
-            if !is_seen(walk, place) && !is_seen(walk, place + size) {
-                reach.unreached = reach.unreached.saturating_add(1);
+            words = words.saturating_add(1);
+            if !is_reached(walk, place) {
+                unreached = unreached.saturating_add(1);
             }
         }
     }
+    Reach {
+        words,
+        reached: walk.reached,
+        legal: walk.legal,
+        starts: walk.starts,
+        unreached,
+    }
+}
+
+/// Returns whether a place is reached, as a basic order or as an extracode.
+fn is_reached(walk: &Walk, place: usize) -> bool {
+    is_seen(walk, place) || is_seen(walk, place.saturating_add(FIXED_WORDS as usize))
 }
 
 fn is_seen(walk: &Walk, index: usize) -> bool {

@@ -8,7 +8,6 @@ mod head;
 mod lines;
 mod map;
 mod page;
-mod reached;
 mod rope_words;
 mod section;
 mod sums;

@@ -1,6 +1,5 @@
 //! The words of a rope file, and what is known of them.
-use crate::reached::reached_places;
-use agc_check::{Damage, damage_of};
+use agc_check::{Damage, damage_of, reached_places};
 use agc_mend::{BadWord, bad_words, damaged_store, file_words};
 use agc_store::place::{FIXED_BANK_SIZE, FIXED_BANKS, FIXED_WORDS};
 use agc_store::{RopeForm, Store};

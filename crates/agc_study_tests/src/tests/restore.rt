@@ -1,6 +1,6 @@
 //! Tests what restores a damaged rope, worked out by hand.
 use super::{repeated, rope_of, same};
-use agc_check::{Damage, Reach, damage_of, follow_orders, score_readings};
+use agc_check::{Damage, Reach, damage_of, follow_orders, reached_places, score_readings};
 use agc_listing::PlacedWord;
 use agc_load::LoadFault;
 use agc_mend::{
@@ -430,6 +430,12 @@ fn orders_that_are_reached(rt: HostRuntime) {
     };
     let reported = follow_orders(rt.alloc(), &store).ok().expect(&rt, "memory");
     same(&rt, reported, wanted, "reach");
+    let places = reached_places(rt.alloc(), &store)
+        .ok()
+        .expect(&rt, "memory");
+    let wanted = [true, true, false, true, false];
+    let reported = places.as_slice().get(0o4000..0o4005);
+    same(&rt, reported, Some(wanted.as_slice()), "places");
     let scores = score_readings(rt.alloc(), [0x0008, 0x3006, 0x0002, 0x3006].as_slice())
         .ok()
         .expect(&rt, "memory");
