@@ -45,11 +45,6 @@ pub(crate) fn read_cell(names: &Option<SymbolTable>, word: &[u8]) -> Result<u16,
 /// Parses a kind, and its scale or bits.
 pub(crate) fn read_kind(word: &[u8], scale: &[u8]) -> Result<Kind, LineFault> {
     match word {
-        b"single" => Ok(Kind::Single(read_scale(scale)?)),
-        b"double" => Ok(Kind::Double(read_scale(scale)?)),
-        b"triple" => Ok(Kind::Triple(read_scale(scale)?)),
-        b"vector" => Ok(Kind::Vector(read_scale(scale)?)),
-        b"unsigned" => Ok(Kind::Unsigned(read_scale(scale)?)),
         b"bits" => {
             let (high, low) = read_bits(scale)?;
             Ok(Kind::Bits { high, low })
@@ -58,7 +53,21 @@ pub(crate) fn read_kind(word: &[u8], scale: &[u8]) -> Result<Kind, LineFault> {
             let (high, low) = read_bits(scale)?;
             Ok(Kind::Octal { high, low })
         }
+        b"single" | b"double" | b"triple" | b"vector" | b"unsigned" => {
+            Ok(scaled_kind(word, read_scale(scale)?))
+        }
         _ => Err(LineFault::UnknownKind),
+    }
+}
+
+/// Returns the kind with this name and scale.
+fn scaled_kind(word: &[u8], scale: Scale) -> Kind {
+    match word {
+        b"single" => Kind::Single(scale),
+        b"double" => Kind::Double(scale),
+        b"triple" => Kind::Triple(scale),
+        b"vector" => Kind::Vector(scale),
+        _ => Kind::Unsigned(scale),
     }
 }
 

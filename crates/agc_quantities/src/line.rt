@@ -64,31 +64,35 @@ pub(crate) fn without_comment(line: &[u8]) -> &[u8] {
 
 /// Splits a line into its fields; `None` if it has none.
 pub(crate) fn fields_of(line: &[u8]) -> Result<Option<Fields<'_>>, LineFault> {
-    let Some((name, rest)) = next_word(without_comment(line)) else {
-        return Ok(None);
-    };
-    let (place, rest) = needed(next_word(rest))?;
-    let (kind, rest) = needed(next_word(rest))?;
-    let (scale, rest) = needed(next_word(rest))?;
-    let (unit, rest) = next_word(rest).unwrap_or((&[], &[]));
-    if next_word(rest).is_some() {
-        return Err(LineFault::TooManyFields);
+    let (words, count) = first_words(without_comment(line));
+    match count {
+        0 => Ok(None),
+        1..4 => Err(LineFault::TooFewFields),
+        4..6 => Ok(Some(Fields {
+            name: words[0],
+            place: words[1],
+            kind: words[2],
+            scale: words[3],
+            unit: words[4],
+        })),
+        _ => Err(LineFault::TooManyFields),
     }
-    Ok(Some(Fields {
-        name,
-        place,
-        kind,
-        scale,
-        unit,
-    }))
 }
 
-/// Returns a word and what follows it, or fails if there is no further field.
-fn needed<'a>(cut: Option<(&'a [u8], &'a [u8])>) -> Result<(&'a [u8], &'a [u8]), LineFault> {
-    match cut {
-        Some(cut) => Ok(cut),
-        None => Err(LineFault::TooFewFields),
+/// Splits a text into its first words, at most six, and counts them; the others are empty.
+pub(crate) fn first_words(text: &[u8]) -> ([&[u8]; 6], usize) {
+    let mut words: [&[u8]; 6] = [&[]; 6];
+    let mut rest = text;
+    for count in 0..6 {
+        match next_word(rest) {
+            Some((word, after)) => {
+                words[count] = word;
+                rest = after;
+            }
+            None => return (words, count),
+        }
     }
+    (words, 6)
 }
 
 /// Parses a name that no earlier line has, and no column of an earlier vector.

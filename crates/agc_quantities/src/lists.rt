@@ -4,7 +4,7 @@ ghost use Rattle.agc_quantities.specs.Fault.{IsLineOf};
 
 use crate::fault::{LineFault, QuantitiesFault};
 use crate::field::{is_name, is_unit, read_kind};
-use crate::line::{Fields, fields_of, is_taken, without_comment};
+use crate::line::{Fields, fields_of, first_words, is_taken, without_comment};
 use crate::quantity::Kind;
 use crate::sent_list::{SentList, SentQuantity};
 use agc_word::{next_line, next_word, read_decimal, read_octal};
@@ -109,22 +109,22 @@ struct Head<'a> {
 
 /// Parses the words after `list`.
 fn read_head(words: &[u8]) -> Option<Head<'_>> {
-    let (name, rest) = next_word(words)?;
-    let (first, rest) = next_word(rest)?;
-    let (second, rest) = next_word(rest)?;
-    if next_word(rest).is_some() || !is_name(name) {
+    let (words, count) = first_words(words);
+    if count != 3 || !is_name(words[0]) {
         return None;
     }
-    let name = match str::from_utf8(name) {
-        Ok(name) => name,
-        Err(_) => return None,
-    };
-    let (first, second) = (read_bits(first)?, read_bits(second)?);
-    Some(Head {
-        name,
-        first,
-        second,
-    })
+    match (
+        str::from_utf8(words[0]),
+        read_bits(words[1]),
+        read_bits(words[2]),
+    ) {
+        (Ok(name), Some(first), Some(second)) => Some(Head {
+            name,
+            first,
+            second,
+        }),
+        _ => None,
+    }
 }
 
 /// Parses a word of five octal digits.

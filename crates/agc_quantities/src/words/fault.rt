@@ -16,7 +16,7 @@ pub fn push_fault(
 ) -> Result<(), AllocError> {
     match fault {
         QuantitiesFault::Line(line, fault) => {
-            write!(text, "quantities line {line}: {fault}")?;
+            write!(text, "quantities line {line}: {}", fault.text())?;
             if matches!(fault, LineFault::UnknownPlace) {
                 push_place(alloc, text, place_in(file, line), names)?;
             }
@@ -30,7 +30,7 @@ pub fn push_fault(
 /// Appends what is wrong with a file of lists, without a line feed.
 pub fn push_list_fault(text: &mut String, fault: QuantitiesFault) -> Result<(), AllocError> {
     match fault {
-        QuantitiesFault::Line(line, fault) => write!(text, "lists line {line}: {fault}"),
+        QuantitiesFault::Line(line, fault) => write!(text, "lists line {line}: {}", fault.text()),
         QuantitiesFault::Nothing => text.push_str("lists: no list has a quantity"),
         QuantitiesFault::Memory => text.push_str("memory"),
     }
