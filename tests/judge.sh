@@ -112,6 +112,14 @@ is() {
     fi
 }
 
+# alone WHAT FILE: checks that a file of standard error has one line; otherwise prints what it has
+alone() {
+    local lines
+    lines=$(wc -l <"$2")
+    [ "$lines" -eq 1 ] || sed "s/^/| /" "$2" >&2
+    holds "$1: alone" test "$lines" -eq 1
+}
+
 # attempt FUNCTION [WORD ..]: makes a try that depends on the clock or on a terminal. As in judge.py, one of which a check failed is
 # made once more, its checks of the second time count, and a line says which failed the first time; three tries at most.
 attempt() {

@@ -4,11 +4,13 @@ import contextlib
 import csv
 import importlib
 import io
+import logging
 import os
 import pathlib
 import shutil
 import sys
 import tempfile
+import warnings
 from concurrent.futures import CancelledError
 
 PATIENCE = 15  # seconds for a scheduler to answer, and for it to have a worker
@@ -177,8 +179,16 @@ def show_progress(done, total):
         print(f"\r[{bar:40}] {done} of {total}", end="\n" if done == total else "", file=sys.stderr, flush=True)
 
 
+def be_quiet_about_dask():
+    """Has Dask, Tornado and asyncio print nothing. If Dask stops its event loop while one of its tasks waits or has just failed, as on a
+    busy machine, asyncio logs that, and Python warns of a coroutine that was not awaited. No user can do anything about either."""
+    logging.disable()
+    warnings.filterwarnings("ignore", "coroutine .* was never awaited", RuntimeWarning)
+
+
 def main_or_sentence(program, main):
-    """Runs main. A mistake, a run that failed, and Control-C end the program with a sentence."""
+    """Runs main. A mistake, a run that failed, and Control-C end the program with a sentence, and nothing else."""
+    be_quiet_about_dask()
     try:
         main()
     except (Mistake, RuntimeError) as error:
