@@ -6,7 +6,7 @@ import sys
 import time
 
 from judge import TOP, judge, near, scratch_folder, slowness
-from site_of import Site, example, keys_in, started, wait
+from site_of import USUAL, Site, example, keys_in, started, wait
 from views import opened, see, steady
 
 FOLDER = scratch_folder()
@@ -163,15 +163,43 @@ DO_STEPS = """window.doSteps = (last) => {
 """Does what each step offers as soon as it is shown, once, up to the last one, and notes what the strip says: in the page, so that no
 step is missed."""
 
+LONGEST_STEP = 200 * 1024000 // 12  # cycles: to the site the craft flies for 140 seconds
+
+STANDS = "[document.getElementById('strip-text').innerText, now.cycle]"
+WHERE = f"""JSON.stringify([
+    {TEXT}, {BUTTONS}, now, shown.panel, document.getElementById('trouble').innerText,
+    document.getElementById('ask').open && document.getElementById('ask-text').innerText,
+    (shown.instruments || []).map(({{ rows, outcome }}) => [rows, outcome]),
+])"""
+
+
+def hang_of(window, last, seconds):
+    """Waits until the strip says the last step of a guide, and returns nothing. A step hangs if the machine's time went on by LONGEST_STEP
+    since it was shown, or if neither it nor the step changes: then returns what the page shows."""
+    text, first, latest, moved = None, 0, 0, 0.0
+
+    def is_over():
+        nonlocal text, first, latest, moved
+        found, cycle = window.value(STANDS)
+        if (found, cycle) != (text, latest):
+            first = first if found == text else cycle
+            text, latest, moved = found, cycle, time.monotonic()
+        stood = time.monotonic() - moved
+        return last in text or latest - first > LONGEST_STEP or stood > USUAL and stood > USUAL * slowness()
+
+    wait(is_over, seconds)
+    return '' if last in window.value(TEXT) else window.value(WHERE)
+
 
 def walk(window, guide, last, seconds=600):
     """Chooses a guide and clicks what its steps offer, up to its last step; returns the steps and the number of clicks."""
     see(window, "document.getElementById('strip').hidden", False)
     click(window, guide)
-    wait(lambda: window.value(TEXT).startswith(guide))
+    if not judge(f'the guide {guide} begins', guide, see(window, 'guiding.guide?.title', guide)):
+        return [], 0
     window.value(DO_STEPS)
     window.value(f'doSteps({json.dumps(last)})')
-    judge(f'the guide {guide} comes to its end', True, wait(lambda: last in window.value(TEXT), seconds))
+    judge(f'the guide {guide} comes to its end', '', hang_of(window, last, seconds))
     return window.value('[steps, clicks]')
 
 

@@ -113,7 +113,7 @@ const CONDITIONS = {
   FLASH: (text) => (['on', 'off'].includes(text) ? () => shown.panel?.FLASH === text : 'on or off'),
   lit: (text) => (ALL_LAMPS.has(text) ? () => isLit(text) : `no lamp ${text}`),
   dark: (text) => (ALL_LAMPS.has(text) ? () => !isLit(text) : `no lamp ${text}`),
-  running: () => () => now.playing,
+  running: () => () => now.playing && now.cycle > 0, // a key at cycle 0 comes before the first order, and the next step may type one at once
   paused: () => () => !now.playing,
   speed: (text) => (SPEED_STEPS.includes(Number(text)) ? () => now.speed === Number(text) : 'a speed is 1, 10, 100 or 1000'),
   seconds: (text) => (Number(text) > 0 ? () => now.cycle >= guiding.since + Number(text) * CYCLES_A_SECOND : 'a number of seconds'),
