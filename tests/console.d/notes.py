@@ -180,7 +180,7 @@ NOTED = [
     ("4002 START +2     55406 TS 1406", ""), ("4003 START +3     55410 TS 1410", "TS FLAGS"),
     ("4004 START +4     34012 CA 4012", "CA START +10"), ("4005 START +5     54004 TS 0004", ""),
     ("4006 START +6     12100 TCF 2100", "TCF FAR"), ("05,2100 FAR          00006 EXTEND", ""),
-    ("05,2101 FAR +1       01010 WRITE 010 > 010 12000", ""), ("05,2102 FAR +2       53411 DXCH 1410", "DXCH FLAGS"),
+    ("05,2101 FAR +1       01010 WRITE 010 > 010 12000", "WRITE OUT0"), ("05,2102 FAR +2       53411 DXCH 1410", "DXCH FLAGS"),
     ("05,2103 FAR +3       34013 CA 4013", "CA START +11"), ("05,2104 FAR +4       54004 TS 0004", ""),
     # from bank 02 only the superbank says whether 2110 is in bank 30 or 40; from bank 30 it is sure
     ("30,2105              14020 TCF 4020", "TCF START +16"), ("4020 START +16    12110 TCF 2110", ""),

@@ -12,8 +12,8 @@ KEYS = [
     "  NOUN  -  4  5  6  PRO     RSET",
     "        0  1  2  3  KEYREL",
 ]
-LONG_HINT = " v n c k r p Enter 0-9 + -  space . Backspace < >  u w d U W D  i t s  q quit"
-SHORT_HINT = " v n c k r p Enter 0-9 + - space . < > u w d i t s q quit"
+LONG_HINT = " v n c k r p Enter 0-9+-  space . Backspace < >  u w d b U W D B  i t s  q quit"
+SHORT_HINT = " v n c k r p Enter 0-9+- space . < > u w d b i t s q quit"
 # Where the digits are: line and column of the names and of the first digit, in the large picture and in the small one.
 LARGE_PAIRS = {"PROG": (0, 46, 1, 46), "VERB": (4, 30, 5, 30), "NOUN": (4, 46, 5, 46)}
 LARGE_REGISTERS = {"R1": (8, 30), "R2": (11, 30), "R3": (14, 30)}

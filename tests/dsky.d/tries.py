@@ -1369,9 +1369,9 @@ def try_names_and_counts():
             "0 4000 START        15000 TCF SEND | A 000000 L 00000 Q 000000 Z 5001 EB 0 FB 00",
             "1 5000 SEND         35020 CA IDLE +11 | A 154171 L 00000 Q 000000 Z 5002 EB 0 FB 00",
             "3 5001 SEND +1      00006 EXTEND | A 154171 L 00000 Q 000000 Z 5003 EB 0 FB 00",
-            "4 5002 SEND +2      01010 WRITE 010 > 010 54171 | A 154171 L 00000 Q 000000 Z 5004 EB 0 FB 00",
+            "4 5002 SEND +2      01010 WRITE OUT0 > 010 54171 | A 154171 L 00000 Q 000000 Z 5004 EB 0 FB 00",
             "6 5003 SEND +3      00006 EXTEND | A 154171 L 00000 Q 000000 Z 5005 EB 0 FB 00",
-            "7 5004 SEND +4      01010 WRITE 010 > 010 54171 | A 154171 L 00000 Q 000000 Z 5006 EB 0 FB 00",
+            "7 5004 SEND +4      01010 WRITE OUT0 > 010 54171 | A 154171 L 00000 Q 000000 Z 5006 EB 0 FB 00",
             "10 5005 IDLE         15005 TCF IDLE x 2 | A 154171 L 00000 Q 000000 Z 5006 EB 0 FB 00",
         ], boundaries_on(terminal.screen)[0])
         judge("what comes next", ["5005 IDLE         15005 TCF IDLE"], boundaries_on(terminal.screen)[1])
@@ -1465,6 +1465,57 @@ def try_searches():
         finds(terminal, "D", 4, "found: just before a change of the panel")
         judge("the key is undone", "", terminal.saved(save))
         judge("searches: the end", (0, []), (terminal.quit()[0], terminal.screen.faults))
+    finally:
+        terminal.close()
+
+
+def asks(terminal, typed, cycle, remark):
+    """A condition that is typed leads to a cycle, and a remark says so."""
+    terminal.type(f"{typed}\r")
+    stands = lambda screen: (last_line(screen), screen.cycle()) == (f" {remark}", cycle) and is_paused(screen) and rerun_of(screen) is None
+    terminal.until(f"{typed!r} does not lead to {cycle} with {remark!r}", stands)
+    judge(f"{typed!r} leads to {cycle}", cycle, terminal.screen.cycle())
+
+
+def try_conditions():
+    """A typed condition is searched for, forward to where it next holds or back to where it held last. SENDS begins its orders at 0, 1,
+    3, 4 (WRITE), 6, 7 (WRITE) and 9, from where on it idles, an order a cycle; CA puts 54171 into A from 1 to 3."""
+    rope, save = woven("conditions", SENDS), os.path.join(scratch, "conditions")
+    names = written("conditions.names", "4000 START\n5000 SEND\n5005 IDLE\n")
+    terminal = Terminal([rope, "--limit", "844807", "--speed", "max", "--save", save, "--names", names], (40, 132))
+    try:
+        terminal.begun()
+        terminal.until("no stop", lambda screen: " CYCLE 844807 STOP Limit" in screen.text())
+        for typed, cycle, remark in (
+            ("b5002", 844807, "none before the stop: 5002"),
+            ("B5002", 4, "found: 5002"),
+            ("B", 4, "none before now: 5002"),
+            ("bIDLE", 9, "found: IDLE"),
+            ("Bwrite 010 ignore 1", 4, "found: write 010 ignore 1"),
+            ("bwrite 010", 6, "found: write 010"),
+            ("b", 9, "found: write 010"),
+            ("Bwrite 010 54170", 9, "none before now: write 010 54170"),
+            ("BSTART", 0, "found: START"),
+            ("bIDLE if A = 54171 ignore 2", 11, "found: IDLE if A = 54171 ignore 2"),
+            ("BSEND +1", 3, "found: SEND +1"),
+            ("BSTART", 0, "found: START"),
+            ("bcell 0000", 3, "found: cell 0000"),
+            ("bpanel", 6, "found: panel"),
+            ("bIDLA", 6, "unknown name; did you mean IDLE?"),
+            ("bcell IDLE", 6, "a cell is in erasable memory: octal, such as 0100 or E3,1400"),
+            ("bIDLE if", 6, "type PLACE [if CELL < WORD], write CCC, cell, interrupt or panel"),
+        ):
+            asks(terminal, typed, cycle, remark)
+        terminal.type("b50q\x7f0")
+        terminal.until("no line", lambda screen: last_line(screen) == " until: 500_")
+        terminal.type("\x7f\x7f\x7f\x7f")
+        terminal.until("the line is not left", lambda screen: last_line(screen) == LONG_HINT)
+        terminal.type("B4")
+        terminal.until("no line for the way back", lambda screen: last_line(screen) == " back until: 4_")
+        terminal.type("\x03")
+        terminal.until("control-C does not leave the line", lambda screen: last_line(screen) == LONG_HINT)
+        judge("no key was pressed", "", terminal.saved(save))
+        judge("conditions: the end", (0, []), (terminal.quit()[0], terminal.screen.faults))
     finally:
         terminal.close()
 
@@ -1577,6 +1628,8 @@ def try_lesson():
         terminal.until("no boundaries", lambda screen: boundaries_on(screen)[0])
         judge("the order at fault", ["255803 4074 TICK +6      26100 ADS LEFT | A 177777 L 00000 Q 000003 Z 4076 EB 0 FB 00"],
               [line for line in boundaries_on(terminal.screen)[0] if " ADS " in line])
+        asks(terminal, "Bcell LEFT", 255803, "found: cell LEFT")
+        asks(terminal, "BTICK if LEFT = 1", 255792, "found: TICK if LEFT = 1")
         judge("the lesson: the end", (0, []), (terminal.quit()[0], terminal.screen.faults))
     finally:
         terminal.close()
@@ -1619,7 +1672,7 @@ GROUPS = (
     try_pictures, try_unsaved, try_saving, try_marks, try_waiting_keys, try_fastest, try_remarks, try_full_disk, try_two_sessions,
     try_little_memory, try_last_keys, try_told_names, try_leaving, try_ink, try_no_terminal, try_resizing, try_script,
     try_refusals, try_many_keys, try_going_back, try_a_long_way_back, try_boundaries, try_start, try_speeds,
-    try_slow_speeds, try_names_and_counts, try_switched_names, try_source_lines, try_searches, try_long_search, try_ending_a_search_back, try_small_stack,
+    try_slow_speeds, try_names_and_counts, try_switched_names, try_source_lines, try_searches, try_conditions, try_long_search, try_ending_a_search_back, try_small_stack,
     try_lesson, try_names, try_idleness,
 )
 

@@ -10,6 +10,7 @@ use agc_cli::{exit_usage, parse_env};
 use agc_io::{OK, REFUSED, WRITE_FAILED, hold_closed_streams, status_of};
 use agc_load::LoadFault;
 use agc_notes::{CommandReader, NoteWriter, Notes, QuantityCommands, RopeFile, read_notes};
+use agc_operands::split_names;
 use agc_repl::{ReplFault, run_repl};
 use agc_session::{Session, open_session};
 use agc_symbols::{SymbolTable, names_at};
@@ -145,8 +146,8 @@ fn open_all<R: Files + AllocGlobal, E: Write>(
     requested: &Console,
     err: &mut E,
 ) -> Result<Opened, u8> {
-    let names = match names_at(rt, &requested.names) {
-        Ok(names) => names,
+    let (names, channels) = match names_at(rt, &requested.names) {
+        Ok(names) => split_names(rt.alloc(), names),
         Err(refusal) => return Err(status_of(REFUSED, Error::Unnamed(refusal).write_to(err))),
     };
     let session = match open_session(rt, &requested.start) {
@@ -157,7 +158,7 @@ fn open_all<R: Files + AllocGlobal, E: Write>(
         path: requested.start.rope.as_str(),
         form: requested.start.form,
     };
-    match read_notes(rt, &requested.notes, rope, &names, err) {
+    match read_notes(rt, &requested.notes, rope, &names, channels, err) {
         Ok(notes) => Ok(Opened {
             session,
             names,

@@ -1,16 +1,13 @@
 //! The event loop: reads keys, runs the machine and draws the screen, at most a hundred times a second.
+use crate::prompt::{Prompt, Typing, wanted};
 use crate::screen::{Content, DrawFault, Screen, ask_size};
-use crate::seeking::{
-    SEARCHING_BACK, Seeking, found_ahead, found_behind, none_ahead, none_before_stop, none_behind,
-    searching,
-};
+use crate::seeking::{Outcome, SEARCHING_BACK, Seeking, Sought, searching};
 use agc_panel::WatchSpec;
 use agc_session::{Cancellation, InjectFault, SearchFault};
 use agc_tui::{
-    Button, Decoder, InputEvent, Operator, Pacer, Ratio, Search, Speed, Target, cycles_in,
-    micros_of,
+    Button, Decoder, InputEvent, Operator, Pacer, Ratio, Search, Speed, Way, cycles_in, micros_of,
 };
-use std::alloc::Global;
+use std::alloc::{AllocError, Global};
 use std::io::Write;
 use std::thread;
 use std::time::{Clock, Duration};
@@ -36,6 +33,12 @@ const LIT: u64 = 300_000;
 /// The microseconds between two requests for the terminal's size; the speed is measured over the same period.
 const ASKED_EVERY: u64 = 500_000;
 
+/// The byte that begins a sequence, such as the terminal's reports.
+const ESCAPE: u8 = 0x1b;
+
+/// The remark if there is no memory for what is typed.
+const NO_MEMORY: &str = "cannot search: out of memory";
+
 /// The speed of the hardware.
 const REAL: Ratio = Ratio { times: 1, parts: 1 };
 
@@ -57,6 +60,8 @@ pub struct EventLoop {
     pub screen: Screen,
     pub pacer: Pacer,
     decoder: Decoder,
+    /// The line on which a condition is typed.
+    prompt: Prompt,
     is_inside: bool,
     /// The places of the tables that can be shown, and whether they are shown.
     watch: Option<WatchSpec>,
@@ -82,7 +87,7 @@ pub enum Action {
     /// Go back a little.
     Back,
     /// Go back to the last one.
-    BackToLast(Target),
+    BackToLast(Sought),
     Save,
     Quit,
 }
@@ -90,6 +95,7 @@ pub enum Action {
 impl EventLoop {
     /// Creates an event loop that starts at a speed.
     pub fn new<C: Clock>(
+        alloc: Global,
         clock: &C,
         operator: Operator,
         screen: Screen,
@@ -103,6 +109,7 @@ impl EventLoop {
             screen,
             pacer: Pacer::new(speed, micros, cycle),
             decoder: Decoder::new(),
+            prompt: Prompt::new(alloc),
             is_inside: false,
             watch,
             are_tables: false,
@@ -123,18 +130,55 @@ impl EventLoop {
     }
 
     /// Handles a typed byte. Returns what the caller has to do.
-    pub fn take<C: Clock>(&mut self, clock: &C, byte: u8) -> Action {
+    pub fn take<C: Clock>(&mut self, alloc: Global, clock: &C, byte: u8) -> Action {
+        if self.prompt.is_open() && byte != ESCAPE && self.decoder.is_plain() {
+            return self.type_condition(alloc, clock, byte);
+        }
         match self.decoder.take(byte) {
             None => Action::None,
             Some(InputEvent::Size { lines, columns }) => {
                 self.screen.resize(lines, columns);
                 Action::None
             }
+            Some(_) if self.prompt.is_open() => Action::None,
             Some(input_event) => {
                 self.remark = "";
+                self.prompt.forget_answer();
                 self.handle(clock, input_event)
             }
         }
+    }
+
+    /// Adds a byte to the condition that is typed. If it is complete, begins to search for it.
+    fn type_condition<C: Clock>(&mut self, alloc: Global, clock: &C, byte: u8) -> Action {
+        match self.prompt.take(byte) {
+            Ok(Typing::GoesOn) => Action::None,
+            Ok(Typing::Complete(way)) => self.search_typed(alloc, clock, way),
+            Err(AllocError) => self.lack_memory(),
+        }
+    }
+
+    /// Begins to search for the condition that was typed last.
+    fn search_typed<C: Clock>(&mut self, alloc: Global, clock: &C, way: Way) -> Action {
+        match self.prompt.check(alloc, self.screen.names()) {
+            Ok(true) => {}
+            Ok(false) => return Action::None,
+            Err(AllocError) => return self.lack_memory(),
+        }
+        match way {
+            Way::Ahead => {
+                self.begin_search(clock, Sought::Typed);
+                Action::None
+            }
+            Way::Back => Action::BackToLast(Sought::Typed),
+        }
+    }
+
+    /// Leaves the line on which a condition is typed, because memory ran out.
+    fn lack_memory(&mut self) -> Action {
+        self.prompt.close();
+        self.remark = NO_MEMORY;
+        Action::None
     }
 
     /// Handles an event.
@@ -149,8 +193,13 @@ impl EventLoop {
                 return Action::Save;
             }
             InputEvent::Back => return Action::Back,
-            InputEvent::Search(Search::Previous(target)) => return Action::BackToLast(target),
-            InputEvent::Search(Search::Next(target)) => self.begin_search(clock, target),
+            InputEvent::Search(Search::Previous(target)) => {
+                return Action::BackToLast(Sought::ByKey(target));
+            }
+            InputEvent::Search(Search::Next(target)) => {
+                self.begin_search(clock, Sought::ByKey(target));
+            }
+            InputEvent::Condition(way) => return self.open_prompt(way),
             InputEvent::Key(button) => self.type_key(button),
             InputEvent::Pause | InputEvent::Step if self.is_searching() => {
                 self.end_search(clock, "search ended")
@@ -170,6 +219,14 @@ impl EventLoop {
             InputEvent::Size { .. } => {}
         }
         Action::None
+    }
+
+    /// Begins to read a condition.
+    fn open_prompt(&mut self, way: Way) -> Action {
+        match self.prompt.open(way) {
+            Ok(()) => Action::None,
+            Err(AllocError) => self.lack_memory(),
+        }
     }
 
     /// Queues a key.
@@ -240,12 +297,15 @@ impl EventLoop {
     }
 
     /// Stops time, and begins to search forward. During a rerun does nothing.
-    fn begin_search<C: Clock>(&mut self, clock: &C, target: Target) {
+    fn begin_search<C: Clock>(&mut self, clock: &C, sought: Sought) {
         if self.operator.rerun_end().is_some() {
             return;
         }
+        let Some((_, count)) = wanted(&self.prompt, self.screen.names(), sought) else {
+            return;
+        };
         self.hold(clock);
-        self.seeking = Some(Seeking::new(target, self.operator.cycle()));
+        self.seeking = Some(Seeking::new(sought, count, self.operator.cycle()));
     }
 
     /// Ends a search with a remark.
@@ -258,13 +318,25 @@ impl EventLoop {
         self.begin_pace(clock);
     }
 
+    /// Ends a search that has come to its end.
+    fn end_with<C: Clock>(&mut self, clock: &C, sought: Sought, outcome: Outcome) {
+        let remark = match self.prompt.report(outcome, sought) {
+            Ok(()) => "",
+            Err(AllocError) => NO_MEMORY,
+        };
+        self.end_search(clock, remark)
+    }
+
     /// Goes on with a search forward, as far as it gets within a turn.
-    fn go_on_seeking<C: Clock>(&mut self, clock: &C, seeking: Seeking) {
+    fn go_on_seeking<C: Clock>(&mut self, clock: &C) {
         let start = micros_of(clock);
         let end = start.saturating_add(RERUN_TURN);
         for _chunk in 0..u64::MAX {
-            if let Some(remark) = self.seek(seeking) {
-                return self.end_search(clock, remark);
+            let Some(seeking) = self.seeking else {
+                return;
+            };
+            if let Some(outcome) = self.seek(seeking) {
+                return self.end_with(clock, seeking.sought, outcome);
             }
             let now = micros_of(clock);
             if end <= now || now == start {
@@ -273,16 +345,25 @@ impl EventLoop {
         }
     }
 
-    /// Goes on with a search forward for some cycles. Returns the remark on its end, if it has ended.
-    fn seek(&mut self, seeking: Seeking) -> Option<&'static str> {
-        let Seeking { target, end } = seeking;
+    /// Goes on with a search forward for some cycles. Returns how it ended, if it has ended.
+    fn seek(&mut self, seeking: Seeking) -> Option<Outcome> {
+        let Seeking { sought, left, end } = seeking;
+        let found = wanted(&self.prompt, self.screen.names(), sought);
+        let Some((condition, _)) = found else {
+            return Some(Outcome::NoneAhead);
+        };
         if self.operator.has_stopped() {
-            return Some(none_before_stop(target));
+            return Some(Outcome::NoneBeforeStop);
         }
         let next = end.min(self.operator.cycle().saturating_add(CHUNK));
-        match self.operator.seek(target.condition(), next) {
-            Ok(true) => Some(found_ahead(target)),
-            Ok(false) if end <= self.operator.cycle() => Some(none_ahead(target)),
+        match self.operator.seek(condition, next) {
+            Ok(true) if left <= 1 => Some(Outcome::FoundAhead),
+            Ok(true) => {
+                let left = left.saturating_sub(1);
+                self.seeking = Some(Seeking { left, ..seeking });
+                None
+            }
+            Ok(false) if end <= self.operator.cycle() => Some(Outcome::NoneAhead),
             Ok(false) => None,
             Err(fault) => {
                 self.note(Err(fault));
@@ -308,6 +389,7 @@ impl EventLoop {
             screen,
             pacer,
             decoder,
+            prompt,
             is_inside,
             watch,
             are_tables,
@@ -329,6 +411,7 @@ impl EventLoop {
             screen,
             pacer,
             decoder,
+            prompt,
             is_inside,
             watch,
             are_tables,
@@ -367,20 +450,24 @@ impl EventLoop {
         self,
         alloc: Global,
         clock: &T,
-        target: Target,
+        sought: Sought,
         cancellation: &mut C,
     ) -> EventLoop {
+        let Some((condition, count)) = wanted(&self.prompt, self.screen.names(), sought) else {
+            return EventLoop {
+                is_searching_back: false,
+                ..self
+            };
+        };
         let (operator, found) = self
             .operator
-            .back_to_last(alloc, target.condition(), cancellation);
+            .back_to_last(alloc, condition, count, cancellation);
         let mut event_loop = EventLoop { operator, ..self };
         event_loop.presses = event_loop.operator.presses();
         match found {
-            Ok(Some(_)) => event_loop.end_search(clock, found_behind(target)),
-            Ok(None) => event_loop.end_search(clock, none_behind(target)),
-            Err(SearchFault::Memory) => {
-                event_loop.end_search(clock, "cannot search: out of memory")
-            }
+            Ok(Some(_)) => event_loop.end_with(clock, sought, Outcome::FoundBehind),
+            Ok(None) => event_loop.end_with(clock, sought, Outcome::NoneBehind),
+            Err(SearchFault::Memory) => event_loop.end_search(clock, NO_MEMORY),
             Err(SearchFault::Cancelled) => {}
         }
         event_loop
@@ -397,8 +484,8 @@ impl EventLoop {
         if self.operator.rerun_end().is_some() {
             return self.rerun(clock);
         }
-        if let Some(seeking) = self.seeking {
-            return self.go_on_seeking(clock, seeking);
+        if self.seeking.is_some() {
+            return self.go_on_seeking(clock);
         }
         let start = micros_of(clock);
         let due = self.pacer.due(start);
@@ -470,6 +557,7 @@ impl EventLoop {
             self.requested_at = self.operator.cycle();
         }
         let pressed = self.lit(micros);
+        let search = self.search_line();
         let shown = Content {
             micros,
             pacer: self.pacer,
@@ -477,13 +565,18 @@ impl EventLoop {
             runs_at: self.runs_at,
             is_inside: self.is_inside,
             tables: if self.are_tables { self.watch } else { None },
-            remark: match self.seeking {
-                Some(seeking) => searching(seeking.target),
-                None if self.is_searching_back => SEARCHING_BACK,
-                None => self.remark,
-            },
+            remark: last_line(&self.prompt, search, self.remark),
         };
         self.screen.draw(alloc, &self.operator, shown, out)
+    }
+
+    /// Returns which search goes on; nothing if none does.
+    fn search_line(&self) -> &'static str {
+        match self.seeking {
+            Some(seeking) => searching(seeking.sought),
+            None if self.is_searching_back => SEARCHING_BACK,
+            None => "",
+        }
     }
 
     /// Returns the lit key: the last one pressed, for a moment.
@@ -511,6 +604,17 @@ impl EventLoop {
             Some(ratio) if ratio.times as u64 * 9 / 10 <= times => None,
             _ => Some(times),
         };
+    }
+}
+
+/// Returns what the last line says: the condition that is typed, the search that goes on, or the remark on what was done last.
+fn last_line<'a>(prompt: &'a Prompt, search: &'static str, remark: &'static str) -> &'a str {
+    if prompt.is_open() || search.is_empty() && remark.is_empty() {
+        prompt.shown()
+    } else if search.is_empty() {
+        remark
+    } else {
+        search
     }
 }
 

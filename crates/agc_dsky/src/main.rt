@@ -4,6 +4,7 @@
 mod ending;
 mod error;
 mod event_loop;
+mod prompt;
 mod quoting;
 mod saving;
 mod screen;
@@ -18,12 +19,13 @@ use agc_panel::WatchSpec;
 use agc_session::open_session;
 use agc_sources::{SourceLines, read_source_lines};
 use agc_symbols::{SymbolTable, names_at};
-use agc_tui::{ColorMode, Operator, Target};
+use agc_tui::{ColorMode, Operator};
 use ending::Ending;
 use error::Error;
 use event_loop::{Action, Ended, EventLoop, rest};
 use saving::SaveFile;
 use screen::{DrawFault, Screen};
+use seeking::Sought;
 use std::io::{IsTerminal, Read, Write};
 use std::os::unix::fs::FileTypeExt;
 use std::process::ExitCode;
@@ -149,7 +151,7 @@ where
     let sources = sources_for(rt, requested)?;
     let ending = ending_for(rt, requested, place)?;
     let screen = Screen::new(rt.alloc(), color, names, sources);
-    let event_loop = EventLoop::new(rt, operator, screen, requested.speed, watch);
+    let event_loop = EventLoop::new(rt.alloc(), rt, operator, screen, requested.speed, watch);
     Ok((event_loop, ending))
 }
 
@@ -289,15 +291,15 @@ where
         let Some(byte) = typed.take() else {
             return (event_loop, None);
         };
-        match event_loop.take(rt, byte) {
+        match event_loop.take(rt.alloc(), rt, byte) {
             Action::None => {}
             Action::Back => event_loop = event_loop.back(rt.alloc(), rt),
-            Action::BackToLast(target) => {
+            Action::BackToLast(sought) => {
                 if event_loop.begin_search_back(rt) {
                     if let Err(fault) = event_loop.draw(rt.alloc(), rt, out) {
                         return (event_loop, Some(ended_by(fault)));
                     }
-                    event_loop = search_back(rt, event_loop, target, keys, typed);
+                    event_loop = search_back(rt, event_loop, sought, keys, typed);
                 }
             }
             Action::Save => {
@@ -314,7 +316,7 @@ where
 fn search_back<R, K: Read>(
     rt: &R,
     event_loop: EventLoop,
-    target: Target,
+    sought: Sought,
     keys: &mut K,
     typed: &mut Typed,
 ) -> EventLoop
@@ -322,7 +324,7 @@ where
     R: Clock + AllocGlobal,
 {
     let mut listener = Listener::new(keys, typed, event_loop.decoder());
-    event_loop.back_to_last(rt.alloc(), rt, target, &mut listener)
+    event_loop.back_to_last(rt.alloc(), rt, sought, &mut listener)
 }
 
 /// Returns how a session ends that cannot be drawn.

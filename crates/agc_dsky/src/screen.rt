@@ -1,7 +1,8 @@
 //! The terminal's screen: what is drawn on it, and its size.
+use agc_operands::{OperandNames, split_names};
 use agc_panel::WatchSpec;
 use agc_sources::{SourceLines, push_with_sources};
-use agc_symbols::SymbolTable;
+use agc_symbols::{ChannelTable, SymbolTable};
 use agc_tui::{
     Button, ColorMode, Operator, Pacer, Size, View, push_inspector, push_tables, render,
 };
@@ -64,8 +65,9 @@ pub struct Content<'a> {
 #[derive(Drop)]
 pub struct Screen {
     color: ColorMode,
-    /// The names of places, if there are any.
+    /// The names of places, if there are any, and of channels.
     names: Option<SymbolTable>,
+    channels: ChannelTable,
     /// The source lines that stand behind lines of the inspector, if there is a listing.
     sources: Option<SourceLines>,
     lines: u16,
@@ -81,14 +83,21 @@ impl Screen {
         names: Option<SymbolTable>,
         sources: Option<SourceLines>,
     ) -> Screen {
+        let (names, channels) = split_names(alloc, names);
         Screen {
             color,
             names,
+            channels,
             sources,
             lines: SMALL_LINES,
             columns: COLUMNS,
             drawn: String::new(alloc),
         }
+    }
+
+    /// Returns the names of places, if there are any.
+    pub fn names(&self) -> &Option<SymbolTable> {
+        &self.names
     }
 
     /// Takes the size that the terminal reported. If it is new, everything is drawn again.
@@ -192,11 +201,29 @@ impl Screen {
         let mut inspector = String::new(alloc);
         if shown.is_inside {
             let (history, session) = (operator.history(), operator.session());
-            push_inspector(alloc, &mut inspector, &self.names, history, most, session)?;
+            push_inspector(
+                alloc,
+                &mut inspector,
+                self.operand_names(),
+                history,
+                most,
+                session,
+            )?;
         }
         match &self.sources {
             Some(sources) => with_sources(alloc, inspector.as_str(), sources),
             None => Ok(inspector),
+        }
+    }
+
+    /// Returns the names of operands, if there are any.
+    fn operand_names(&self) -> Option<OperandNames<'_>> {
+        match &self.names {
+            Some(places) => Some(OperandNames {
+                places,
+                channels: &self.channels,
+            }),
+            None => None,
         }
     }
 
@@ -245,9 +272,9 @@ impl Screen {
             return write!(frame, " {left} more lines: enlarge the terminal");
         }
         frame.push_str(if self.columns < LONG_HINT_COLUMNS {
-            " v n c k r p Enter 0-9 + - space . < > u w d i t s q quit"
+            " v n c k r p Enter 0-9+- space . < > u w d b i t s q quit"
         } else {
-            " v n c k r p Enter 0-9 + -  space . Backspace < >  u w d U W D  i t s  q quit"
+            " v n c k r p Enter 0-9+-  space . Backspace < >  u w d b U W D B  i t s  q quit"
         })
     }
 

@@ -4,6 +4,7 @@ use crate::display::Display;
 use crate::notes::Notes;
 use crate::operand_notes::push_operand_note;
 use crate::values::cell_word_in;
+use agc_operands::OperandNames;
 use agc_quantities::CellWord;
 use agc_sources::PrintedLine;
 use agc_symbols::SymbolTable;
@@ -109,8 +110,15 @@ impl<'a, W: Write> NoteWriter<'a, W> {
 
     /// Writes the order of a line with its operand by its name, if that is sure.
     fn write_operand(&mut self) -> io::Result<()> {
+        let Some(places) = self.names else {
+            return Ok(());
+        };
+        let names = OperandNames {
+            places,
+            channels: &self.notes.channels,
+        };
         let mut text = String::new(self.alloc);
-        or_memory(push_operand_note(&mut text, self.names, self.line.as_slice()))?;
+        or_memory(push_operand_note(&mut text, names, self.line.as_slice()))?;
         self.out.write_all(text.as_bytes())
     }
 

@@ -6,7 +6,7 @@ use agc_io::{InputFile, ReadError, read_limited};
 use agc_quantities::{FILE_BYTES, push_fault, read_quantities};
 use agc_sources::{SourceLines, read_source_lines};
 use agc_store::RopeForm;
-use agc_symbols::SymbolTable;
+use agc_symbols::{ChannelTable, SymbolTable};
 use std::alloc::{AllocError, Global};
 use std::fs;
 use std::io::Write;
@@ -33,9 +33,10 @@ impl NoteFiles {
     }
 }
 
-/// What is known of a program: the lines of its source, its quantities, its verbs and nouns.
+/// What is known of a program: the names of its channels, the lines of its source, its quantities, its verbs and nouns.
 #[derive(Drop)]
 pub struct Notes {
+    pub(crate) channels: ChannelTable,
     pub(crate) sources: Option<SourceLines>,
     pub(crate) values: Option<Values>,
     pub(crate) nouns: Option<Nouns>,
@@ -55,6 +56,7 @@ pub fn read_notes<R, E: Write>(
     files: &NoteFiles,
     rope: RopeFile<'_>,
     names: &Option<SymbolTable>,
+    channels: ChannelTable,
     err: &mut E,
 ) -> Result<Notes, ()>
 where
@@ -70,6 +72,7 @@ where
     };
     let values = values_of(rt, &files.quantities, names, err)?;
     Ok(Notes {
+        channels,
         sources,
         values,
         nouns,

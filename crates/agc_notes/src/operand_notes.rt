@@ -1,7 +1,7 @@
 //! Notes behind the lines of orders: the order with its operand by its name.
 use agc_listing::{Operand, location_named};
-use agc_operands::{KnownBanks, operand_name};
-use agc_symbols::{SymbolTable, push_nearby};
+use agc_operands::{KnownBanks, OperandNames, operand_name};
+use agc_symbols::push_nearby;
 use agc_word::{next_word, read_octal};
 use std::alloc::AllocError;
 
@@ -13,18 +13,18 @@ const BANKS_BYTES: usize = 10;
 struct PrintedOrder<'a> {
     mnemonic: &'a str,
     operand: Operand,
-    /// What the line tells of the banks before the order.
+    /// What the line says of the banks before the order.
     banks: KnownBanks,
 }
 
 /// Appends ` # ` and the order of a line with its operand by its name: behind `next` and the lines of a trace. Appends nothing if
-/// the operand has no name, or if a bank that the line does not tell decides which place it is.
+/// the operand has no name, or if a bank that the line does not say decides which place it is.
 pub(crate) fn push_operand_note(
     text: &mut String,
-    names: &Option<SymbolTable>,
+    names: OperandNames<'_>,
     line: &[u8],
 ) -> Result<(), AllocError> {
-    let (Some(names), Some(order)) = (names, order_in(line)) else {
+    let Some(order) = order_in(line) else {
         return Ok(());
     };
     let Some(near) = operand_name(names, order.operand, order.banks) else {

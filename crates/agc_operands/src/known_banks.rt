@@ -2,7 +2,8 @@
 use agc_listing::{Location, Operand, location_at};
 use agc_store::Addr;
 use agc_store::place::{ERASABLE_WINDOW, FIXED_FIXED, FIXED_WINDOW};
-use agc_symbols::{Nearest, SymbolTable};
+use agc_symbols::{ChannelTable, Nearest, SymbolTable};
+use std::alloc::Global;
 
 /// FB selects banks from here on, octal, as the superbank has them.
 const FIRST_SUPERBANKED: u8 = 0o30;
@@ -81,16 +82,45 @@ fn is_writing(mnemonic: &str) -> bool {
     )
 }
 
-/// Returns the name of an address, of a double word that of its upper word. Returns `None` if it has no name, or if a bank
-/// that is not known decides which place it is. A channel keeps its number.
+/// The names of places and of channels.
+#[derive(Clone, Copy)]
+pub struct OperandNames<'a> {
+    pub places: &'a SymbolTable,
+    pub channels: &'a ChannelTable,
+}
+
+/// Takes the names of channels out of a symbol file's, if there is one.
+pub fn split_names(
+    alloc: Global,
+    names: Option<SymbolTable>,
+) -> (Option<SymbolTable>, ChannelTable) {
+    match names {
+        Some(names) => {
+            let (places, channels) = names.split(alloc);
+            (Some(places), channels)
+        }
+        None => (None, ChannelTable::new(alloc)),
+    }
+}
+
+/// Returns the name of an address or of a channel, of a double word that of its upper word. Returns `None` if it has no name, or
+/// if a bank that is not known decides which place it is.
 pub fn operand_name(
-    names: &SymbolTable,
+    names: OperandNames<'_>,
     operand: Operand,
     banks: KnownBanks,
 ) -> Option<Nearest<'_>> {
     match operand {
-        Operand::Address(address) => names.operand_at(location_of(address, banks)?),
-        Operand::Nothing | Operand::Channel(_) => None,
+        Operand::Address(address) => names.places.operand_at(location_of(address, banks)?),
+        Operand::Channel(channel) => channel_name(names.channels, channel),
+        Operand::Nothing => None,
+    }
+}
+
+fn channel_name(channels: &ChannelTable, channel: u16) -> Option<Nearest<'_>> {
+    match channels.name(channel) {
+        Some(name) => Some(Nearest { name, offset: 0 }),
+        None => None,
     }
 }
 

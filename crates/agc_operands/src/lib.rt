@@ -3,4 +3,4 @@
 
 mod known_banks;
 
-pub use known_banks::{KnownBanks, operand_name};
+pub use known_banks::{KnownBanks, OperandNames, operand_name, split_names};

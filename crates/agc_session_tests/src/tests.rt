@@ -3,6 +3,7 @@ mod answer;
 mod back;
 mod console;
 mod conversation;
+mod operands;
 mod operator;
 mod picture;
 mod request;

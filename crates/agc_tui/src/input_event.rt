@@ -1,6 +1,6 @@
 //! Decodes typed bytes: keys of the DSKY, commands to the program, and the terminal's own reports.
 use crate::keyboard::Button;
-use crate::search::Search;
+use crate::search::{Search, Way};
 
 /// An event decoded from the terminal's bytes.
 #[derive(Clone, Copy, Debug, PartialEq, Eq)]
@@ -15,6 +15,8 @@ pub enum InputEvent {
     Back,
     /// Search in time.
     Search(Search),
+    /// Type a condition, and search for it.
+    Condition(Way),
     Faster,
     Slower,
     /// Show or hide the inspector.
@@ -93,6 +95,11 @@ impl Decoder {
         }
     }
 
+    /// Returns whether no sequence has begun: the next byte is one of its own, unless it is ESC.
+    pub fn is_plain(&self) -> bool {
+        matches!(self.state, State::Plain)
+    }
+
     /// Decodes a byte, and returns the event that it completes, if any.
     pub fn take(&mut self, byte: u8) -> Option<InputEvent> {
         let (state, input_event) = match self.state {
@@ -126,6 +133,8 @@ fn event_of(byte: u8) -> Option<InputEvent> {
         b'<' => Some(InputEvent::Slower),
         b'i' => Some(InputEvent::Inside),
         b't' => Some(InputEvent::Tables),
+        b'b' => Some(InputEvent::Condition(Way::Ahead)),
+        b'B' => Some(InputEvent::Condition(Way::Back)),
         b's' => Some(InputEvent::Save),
         b'q' | 0x03 | 0x04 => Some(InputEvent::Quit),
         _ => key_or_search(byte),

@@ -18,5 +18,5 @@ pub use input_event::{Decoder, InputEvent};
 pub use keyboard::Button;
 pub use operator::Operator;
 pub use pacer::{Pacer, Ratio, Speed, cycles_in, micros_of};
-pub use search::{Search, Target};
+pub use search::{Search, Target, Way};
 pub use words::{ColorMode, Size, View, push_inspector, push_tables, render};

@@ -1,5 +1,5 @@
 //! The operator: queues typed keys and presses each one when the machine can accept it.
-ghost use Rattle.std.specs.Prelude.{◌≡◌, ◌^◌, ◌-◌, [], false, true, IfOk, IfSome, IsSome, IsTrue, None, OnErr, OnOk, Some};
+ghost use Rattle.std.specs.Prelude.{◌≡◌, ◌<◌, ◌^◌, ◌-◌, [], false, true, IfOk, IfSome, IsSome, IsTrue, None, OnErr, OnOk, Some};
 ghost use Rattle.std.specs.Io.KnownBytes.{Appends};
 ghost use Rattle.agc_script.specs.Event.{IsWhatInRange};
 ghost use Rattle.agc_script.specs.Written.{script_text};
@@ -360,24 +360,26 @@ impl Operator {
         self.return_to(alloc, cycle, rerun)
     }
 
-    /// Begins to go back to where the last boundary before now began that hits a condition, and discards the keys pressed
-    /// after that and all that wait. [`rerun`](Operator::rerun) does the rest. Returns the cycle. If there was no such
-    /// boundary, the search was cancelled or memory ran out, nothing has changed.
+    /// Begins to go back to where the last boundary before now began that hits a condition, or with a `count` of 2 the last
+    /// but one, and so on. Discards the keys pressed after that and all that wait. [`rerun`](Operator::rerun) does the rest.
+    /// Returns the cycle. If there was no such boundary, the search was cancelled or memory ran out, nothing has changed.
     pub fn back_to_last<C: Cancellation>(
         self,
         alloc: Global,
         condition: Condition,
+        count: u64,
         cancellation: &mut C,
     ) -> (Operator, Result<Option<u64>, SearchFault>)
-        requires { IsConditionInRange condition }
-        ensures found { IfOk result.1 (IsFoundBack condition 1 self.session) }
+        requires some { 0 < count }
+        requires range { IsConditionInRange condition }
+        ensures found { IfOk result.1 (IsFoundBack condition count self.session) }
         ensures back { IfOk result.1 (λ found. IfSome found (λ cycle. HasBegunBack cycle self result.0)) }
         ensures none { IfOk result.1 (λ found. found ≡ None → result.0 ≡ self) }
         ensures fault { OnErr result.1 (result.0 ≡ self) }
     {
         match self
             .session
-            .last_hit_unless(alloc, condition, 1, cancellation)
+            .last_hit_unless(alloc, condition, count, cancellation)
         {
             Ok(Some(cycle)) => {
                 let (operator, is_new) = self.back_to_events(alloc, cycle);

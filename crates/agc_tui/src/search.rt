@@ -16,6 +16,13 @@ pub enum Target {
     Panel,
 }
 
+/// A way in time.
+#[derive(Clone, Copy, Debug, PartialEq, Eq)]
+pub enum Way {
+    Ahead,
+    Back,
+}
+
 /// A search in time.
 #[derive(Clone, Copy, Debug, PartialEq, Eq)]
 pub enum Search {

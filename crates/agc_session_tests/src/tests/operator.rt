@@ -1,6 +1,7 @@
 //! Tests what bytes type, how time passes, and when keys are pressed.
 use super::search::TURN;
 use super::{equal, equal_at, has_text, session_of};
+use agc_operands::OperandNames;
 use agc_script::Key;
 use agc_session::{Cancellation, InjectFault, NoCancellation, SearchFault};
 use agc_symbols::SymbolTable;
@@ -166,7 +167,7 @@ fn a_full_script_takes_no_key(rt: HostRuntime) {
 /// Returns the inspector's text for an operator's machine, with at most `most` lines of its last boundaries.
 fn inspector(
     rt: &(impl AllocGlobal + Abort),
-    names: &Option<SymbolTable>,
+    names: Option<OperandNames<'_>>,
     operator: &Operator,
     most: usize,
 ) -> String {
@@ -186,12 +187,12 @@ fn inspector(
 
 /// Checks the inspector's text.
 fn shows(rt: &(impl AllocGlobal + Abort), operator: &Operator, most: usize, wanted: &str) {
-    equal(rt, inspector(rt, &None, operator, most).as_str(), wanted);
+    equal(rt, inspector(rt, None, operator, most).as_str(), wanted);
 }
 
 /// Checks that twelve lines are kept, followed by the two lines of the state.
 fn shows_twelve(rt: &(impl AllocGlobal + Abort), operator: &Operator) {
-    let text = inspector(rt, &None, operator, 20);
+    let text = inspector(rt, None, operator, 20);
     equal(rt, text.as_str().lines().count(), 14);
 }
 
@@ -215,10 +216,17 @@ fn last_boundaries(rt: HostRuntime) {
         " 111 4000 14000 TCF 4000 x 12 | A 000000 L 00000 Q 000000 Z 4001 EB 0 FB 00
  A 000000 L 00000 Q 000000 Z 4001 EB 0 FB 00 BB 00000\n next 4000 14000 TCF 4000\n",
     );
-    let names = SymbolTable::read(rt.alloc(), b"4000 LOOP\n").ok();
+    let names = SymbolTable::read(rt.alloc(), b"4000 LOOP\n")
+        .ok()
+        .expect(&rt, "names");
+    let (places, channels) = names.split(rt.alloc());
+    let names = OperandNames {
+        places: &places,
+        channels: &channels,
+    };
     equal(
         &rt,
-        inspector(&rt, &names, &operator, 12).as_str(),
+        inspector(&rt, Some(names), &operator, 12).as_str(),
         " 111 4000 LOOP         14000 TCF LOOP x 12 | A 000000 L 00000 Q 000000 Z 4001 EB 0 FB 00
  A 000000 L 00000 Q 000000 Z 4001 EB 0 FB 00 BB 00000\n next 4000 LOOP         14000 TCF LOOP\n",
     );
@@ -318,6 +326,7 @@ fn seeks_back(
     let (mut operator, found) = operator.back_to_last(
         rt.alloc(),
         target.condition(),
+        1,
         &mut NoCancellation,
     );
     equal_at(rt, target, found.ok().expect(rt, "memory"), wanted);
@@ -348,6 +357,30 @@ fn searches_end_at_hits(rt: HostRuntime) {
     equal(&rt, operator.limit_to_repeat(), 45);
 }
 
+/// A search back for the second last hit comes to where it began: WRITE begins at 3, 9 .. 45.
+#[test]
+fn searches_back_pass_over_hits(rt: HostRuntime) {
+    let mut operator = operator_with(&rt, TURN, "");
+    go_to(&rt, &mut operator, 50);
+    let (mut operator, found) = operator.back_to_last(
+        rt.alloc(),
+        Target::Write.condition(),
+        2,
+        &mut NoCancellation,
+    );
+    equal(&rt, found, Ok(Some(39)));
+    operator.rerun(u64::MAX);
+    equal(&rt, operator.cycle(), 39);
+    let (operator, found) = operator.back_to_last(
+        rt.alloc(),
+        Target::Write.condition(),
+        7,
+        &mut NoCancellation,
+    );
+    equal(&rt, found, Ok(None));
+    equal(&rt, operator.cycle(), 39);
+}
+
 /// Cancels each search.
 #[derive(Drop)]
 struct AlwaysCancelled;
@@ -365,7 +398,7 @@ fn cancelled_searches_change_nothing(rt: HostRuntime) {
     seeks(&rt, &mut operator, Target::Write, 100, true, 5);
     type_key(&rt, &mut operator, Button::Coded(Key::One));
     let condition = Target::Write.condition();
-    let (operator, found) = operator.back_to_last(rt.alloc(), condition, &mut AlwaysCancelled);
+    let (operator, found) = operator.back_to_last(rt.alloc(), condition, 1, &mut AlwaysCancelled);
     equal(&rt, found, Err(SearchFault::Cancelled));
     equal(&rt, operator.rerun_end(), None);
     equal(&rt, operator.waiting(), 1);

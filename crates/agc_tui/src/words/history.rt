@@ -6,14 +6,14 @@ ghost use Rattle.agc_tui.specs.Fold.{Fits};
 use super::named_order::push_happened;
 use crate::fold::Line;
 use agc_machine::ChannelWrite;
-use agc_symbols::SymbolTable;
+use agc_operands::OperandNames;
 use agc_trace::push_registers;
 use std::alloc::AllocError;
 
 /// Adds these lines, each after a space, with the names of places if there are any.
 pub(crate) fn push_lines(
     text: &mut String,
-    names: &Option<SymbolTable>,
+    names: Option<OperandNames<'_>>,
     lines: &[Line],
 ) -> Result<(), AllocError>
     requires { All Fits lines.now }
@@ -28,7 +28,7 @@ pub(crate) fn push_lines(
 /// one; the registers.
 fn push_folded(
     text: &mut String,
-    names: &Option<SymbolTable>,
+    names: Option<OperandNames<'_>>,
     line: &Line,
 ) -> Result<(), AllocError>
     requires { FitsLine line.now.last }

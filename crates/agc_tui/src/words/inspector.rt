@@ -2,9 +2,9 @@
 use super::history::push_lines;
 use super::named_order::push_coming;
 use crate::history::History;
+use agc_operands::OperandNames;
 use agc_panel::{WatchSpec, watch};
 use agc_session::Session;
-use agc_symbols::SymbolTable;
 use agc_trace::push_registers_line;
 use std::alloc::{AllocError, Global};
 
@@ -13,7 +13,7 @@ use std::alloc::{AllocError, Global};
 pub fn push_inspector(
     alloc: Global,
     text: &mut String,
-    names: &Option<SymbolTable>,
+    names: Option<OperandNames<'_>>,
     history: &History,
     most: usize,
     session: &Session,

@@ -6,9 +6,9 @@ ghost use Rattle.agc_listing.specs.Order.{FitsPrint};
 
 use agc_listing::{Operand, location_at, operand_in, push_operand, push_place};
 use agc_machine::{InHand, Machine, Upcoming};
-use agc_operands::{KnownBanks, operand_name};
+use agc_operands::{KnownBanks, OperandNames, operand_name};
 use agc_order::{Basic, Extracode};
-use agc_symbols::{SymbolTable, push_column, push_nearby};
+use agc_symbols::{Nearest, push_column, push_nearby};
 use agc_trace::{Entry, Registers, order_place, push_happening, push_named_happening};
 use std::alloc::AllocError;
 
@@ -16,7 +16,7 @@ use std::alloc::AllocError;
 /// registers tell which it is.
 pub(crate) fn push_happened(
     text: &mut String,
-    names: &Option<SymbolTable>,
+    names: Option<OperandNames<'_>>,
     entry: &Entry,
 ) -> Result<(), AllocError>
     requires { FitsLine entry.now }
@@ -31,7 +31,7 @@ pub(crate) fn push_happened(
 /// Adds what comes next, an order with the names of its place and its operand if there are names.
 pub(crate) fn push_coming(
     text: &mut String,
-    names: &Option<SymbolTable>,
+    names: Option<OperandNames<'_>>,
     machine: &Machine,
 ) -> Result<(), AllocError> {
     let next = machine.upcoming();
@@ -71,7 +71,7 @@ fn banks_before_order(order: &InHand, after: Registers) -> KnownBanks {
 
 fn push_called(
     text: &mut String,
-    names: &SymbolTable,
+    names: OperandNames<'_>,
     happening: Upcoming,
     banks: KnownBanks,
 ) -> Result<(), AllocError>
@@ -80,7 +80,7 @@ fn push_called(
     match happening {
         Upcoming::Order(order) => push_order_called(text, names, &order, banks),
         Upcoming::Stop(_) | Upcoming::Event(_) | Upcoming::Timer(_) | Upcoming::Interrupt(_) => {
-            push_named_happening(text, names, happening)
+            push_named_happening(text, names.places, happening)
         }
     }
 }
@@ -88,7 +88,7 @@ fn push_called(
 /// Adds an order with its place, its name column and its word, and its operand by its name, if it has one.
 fn push_order_called(
     text: &mut String,
-    names: &SymbolTable,
+    names: OperandNames<'_>,
     order: &InHand,
     banks: KnownBanks,
 ) -> Result<(), AllocError>
@@ -97,16 +97,28 @@ fn push_order_called(
     let (bank, address, word) = (order.bank, order.address, order.word);
     push_place(text, order_place(bank, address))?;
     text.push_str(" ")?;
-    push_column(text, names, location_at(bank, address))?;
+    push_column(text, names.places, location_at(bank, address))?;
     write!(text, "{word} ")?;
     text.push_str(mnemonic_of(*order))?;
-    match operand_name(names, operand_of(*order), banks) {
+    match name_of_operand(names, order, banks) {
         Some(near) => {
             text.push_str(" ")?;
             push_nearby(text, near)
         }
         None => push_operand(text, operand_of(*order)),
     }
+}
+
+/// Returns the name of the operand of an order, if it has one. EDRUPT has no operand.
+fn name_of_operand<'a>(
+    names: OperandNames<'a>,
+    order: &InHand,
+    banks: KnownBanks,
+) -> Option<Nearest<'a>> {
+    if mnemonic_of(*order).as_bytes() == b"EDRUPT".as_slice() {
+        return None;
+    }
+    operand_name(names, operand_of(*order), banks)
 }
 
 fn mnemonic_of(order: InHand) -> &'static str {
