@@ -2,6 +2,7 @@
 //! octal, except for cycles.
 use super::progress::was_reported;
 use super::{has_lines, machine_of, owned, same};
+use agc_film_blocks::{FilmBlock, film_block};
 use agc_io::NoProgress;
 use agc_load::RunFiles;
 use agc_machine::Stop;
@@ -18,6 +19,24 @@ fn blocks<'a>(rt: &impl Abort, page: &'a str) -> &'a str {
         .expect(rt, "a block");
     let (blocks, _) = after.split_once("<script>").expect(rt, "a script");
     blocks
+}
+
+/// The block of a file has its bytes, but for what would end it, and then the elements that show it.
+#[test]
+fn a_block_has_the_bytes_of_its_file(rt: HostRuntime) {
+    let file = b"V16 N68\n</script>\\\xff";
+    let block = film_block(rt.alloc(), FilmBlock::Nouns, file)
+        .ok()
+        .expect(&rt, "memory");
+    let whole =
+        "<script type=\"text/plain\" id=\"nouns\">\nV16 N68\n\\074/script>\\134\\377</script>\n<style>\n";
+    same(&rt, block.starts_with(whole), true, "a block of nouns");
+    same(
+        &rt,
+        FilmBlock::Samples.name(),
+        "samples",
+        "the name of a block",
+    );
 }
 
 /// Writes a relay word twice from cycle 3 on, then a word of the lamps to channel 11, and waits.
