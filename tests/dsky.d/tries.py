@@ -1497,7 +1497,7 @@ def try_conditions():
             ("Bwrite 010 54170", 9, "none before now: write 010 54170"),
             ("BSTART", 0, "found: START"),
             ("bIDLE if A = 54171 ignore 2", 11, "found: IDLE if A = 54171 ignore 2"),
-            ("BSEND +1", 3, "found: SEND +1"),
+            ("BSEND+1", 3, "found: SEND+1"),
             ("BSTART", 0, "found: START"),
             ("bcell 0000", 3, "found: cell 0000"),
             ("bpanel", 6, "found: panel"),
