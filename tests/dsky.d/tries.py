@@ -33,7 +33,7 @@ SPACING = 8533
 PRO_HELD = 17067
 HOUR = 307_200_000
 # The kilobytes of stack that README says are enough.
-STACK = 256
+STACK = 384
 NAMES = {"v": "VERB", "n": "NOUN", "c": "CLR", "k": "KEYREL", "r": "RSET", "\r": "ENTR", **{key: key for key in "0123456789+-"}}
 # The programs agc and agc-study that the last lines name: beside the one that was started.
 AGAIN, FILM = (os.path.join(os.path.dirname(dsky), name) for name in ("agc", "agc-study"))
