@@ -10,7 +10,7 @@ import sys
 import time
 
 from judge import AGC, judge, near, scratch_folder
-from site_of import Site, example, keys_in, wait
+from site_of import Site, example, keys_in, looked, wait
 from views import begin_flight, click, craft_module, look_at_cell, opened, see
 
 FOLDER = scratch_folder()
@@ -62,6 +62,10 @@ class Flight:
         before = self.cycle()
         click(self.window, label)
         return before
+
+    def click_until(self, label, is_so):
+        """Clicks a button, at most three times, until something is so: a click misses a button that moves just then."""
+        return any(self.click(label) is not None and looked(is_so, 20) for _ in range(3))
 
     def end(self):
         judge('errors of the page', [], self.window.errors())
@@ -150,8 +154,7 @@ def repeat(flight):
 def begin_again(flight):
     """Another flight begins, of the next seed's craft; undo brings the one before back."""
     outcome, script, end = flight.outcome(), flight.site.script(), flight.cycle()
-    flight.click('Again with another seed')
-    judge('back at the beginning', True, wait(lambda: flight.cycle() == 0))
+    judge('back at the beginning', True, flight.click_until('Again with another seed', lambda: flight.cycle() == 0))
     rows = flight.rows()
     judge('a new craft', ('2300.0 m', 'engine off', 'off', ''), (rows['Altitude'], rows['Thrust'], rows['Rendezvous radar'], flight.outcome()))
     judge('nothing was done yet', '', flight.site.script())
@@ -160,8 +163,7 @@ def begin_again(flight):
     # The button moves as the page hears of it.
     judge('the page shows it', True, wait(lambda: flight.window.value('now.cycle') == end))
     time.sleep(0.5)
-    flight.click('Again with another seed')
-    judge('back at the beginning', True, wait(lambda: flight.cycle() == 0))
+    judge('back at the beginning', True, flight.click_until('Again with another seed', lambda: flight.cycle() == 0))
     flight.site.do('step')
     craft = craft_module()
     wanted = [f'poke {bank:o} {offset:o} {word:05o}' for bank, offset, word in craft.load(craft.Craft(seed=3))]
